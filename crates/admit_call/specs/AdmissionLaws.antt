@@ -1,12 +1,15 @@
 -- What the answer of the tests says where it refuses, and where it accepts.
-use Rattle.std.specs.Prelude.{◌≡◌, ◌++◌}
+use Rattle.std.specs.Prelude.{Ok, Err, ◌≡◌, ◌++◌}
 use Rattle.admit_call.specs.Prelude.{refl, sym, ap, ◌∙◌, List, ℕ, zero, suc, arith, first, shot_level, read_level}
 use Rattle.refusals.specs.TestLaws.{stops, goes}
 use Rattle.refusals.specs.After.{after}
 use Rattle.refusals.specs.AfterLaws.{result-made}
-use Rattle.noise.specs.declared.Levels.{Levels}
-use Rattle.admit_call.specs.declared.Tested.{Tested}
-use Rattle.admit_call.specs.Admission.{tested_as}
+use Rattle.refusals.specs.declared.Refusal.{Refusal}
+use Rattle.refusals.specs.Refused.{refusal_number}
+use Rattle.refusals.specs.RefusedLaws.{some-number}
+use Rattle.noise.specs.declared.Levels as code
+use Rattle.noise.specs.Levels.{Levels, Found}
+use Rattle.admit_call.specs.Admission.{Tested, tested_in, tested_as}
 
 pub tested-refused : (number : ℕ) (levels : Levels) {k : ℕ} → k ≡ number → (k ≡ 0 → ⊥) → ◌≡◌ {A = Tested} (record { refusal = k; shot = 0; read = 0 }) (tested_as number levels)
 unfolding tested_as after
@@ -42,3 +45,10 @@ module _ {r : Tested} (number : ℕ) (levels : Levels) (e : r ≡ tested_as numb
   tested-levels z =
       let passed : number ≡ 0 = sym tested-number ∙ z in
       (result-made number 0 _ passed (ap (λ r. r.shot) e), result-made number 0 _ passed (ap (λ r. r.read) e))
+
+-- the code's refusal, and the levels that it lets through
+pub refused_as : (refusal : Refusal) (number : ℕ) (levels : Levels) → refusal_number refusal ≡ number → tested_in (Err refusal) ≡ tested_as number levels
+refused_as refusal number levels e = tested-refused number levels e (λ z. let some = some-number refusal in absurd (omega (arith, z, some)))
+
+pub accepted_as : (found : code.Levels) (number : ℕ) (levels : Levels) → 0 ≡ number → Found found.shot found.read ≡ levels → tested_in (Ok found) ≡ tested_as number levels
+accepted_as found number levels z e = tested-accepted number levels z refl (ap shot_level e) (ap read_level e)

@@ -2,11 +2,13 @@
 ghost use Rattle.std.specs.Prelude.{◌≡◌, ◌≤◌};
 ghost use Rattle.admit_length.specs.Prelude.{first, Allowed, TileSide};
 ghost use Rattle.admit_length.specs.Bands.{band_allowed, band_part_refusal, band_length, band_work_length, band_lengths, band_shape_tests, band_work_question};
+ghost use Rattle.refusals.specs.Refused.{answer_of};
 
 use crate::lengths::{length_refusal, sample_length, vector_length};
 use crate::order::burst_refusal;
 use crate::question::question_refusal;
 use geometry::Shape;
+use refusals::{Refusal, refuse};
 
 // Rows `top` to `top + rows` - 1, where they begin and end between tiles and lie in the frame.
 fn band_allowed(shape: Shape, top: usize, rows: usize) -> bool
@@ -29,11 +31,12 @@ fn band_allowed(shape: Shape, top: usize, rows: usize) -> bool
 }
 
 // Refusal 27.
-fn band_part_refusal(shape: Shape, top: usize, rows: usize) -> u64
+#[tactic(auto, unfolding(crate::specs::Bands::band_part_refusal))]
+fn band_part_refusal(shape: Shape, top: usize, rows: usize) -> Result<(), Refusal>
     requires { TileSide shape.side }
-    ensures { result ≡ band_part_refusal shape top rows }
+    ensures { answer_of result ≡ band_part_refusal shape top rows }
 {
-    refusals::refuse(refusals::PART, !band_allowed(shape, top, rows))
+    refuse(Refusal::Part, !band_allowed(shape, top, rows))
 }
 
 // Words of a band's output.
@@ -53,6 +56,7 @@ fn band_work_length(shape: Shape) -> usize
 }
 
 // Tests 4 to 7.
+#[tactic(auto, using(refusals::specs::RefusedLaws::refuses), unfolding(refusals::specs::Tests::first, crate::specs::Bands::band_lengths))]
 fn band_lengths(
     shape: Shape,
     rows: usize,
@@ -60,19 +64,18 @@ fn band_lengths(
     vectors: usize,
     output: usize,
     work: usize,
-) -> u64
+) -> Result<(), Refusal>
     requires { record { allowed : Allowed shape; sided : TileSide shape.side; inside : rows ≤ shape.height } }
-    ensures { result ≡ first (band_lengths shape rows samples vectors output work) }
+    ensures { answer_of result ≡ first (band_lengths shape rows samples vectors output work) }
 {
-    refusals::first(&[
-        length_refusal(refusals::SAMPLE_LENGTH, sample_length(shape), samples),
-        length_refusal(refusals::VECTOR_LENGTH, vector_length(shape), vectors),
-        length_refusal(refusals::OUTPUT_LENGTH, band_length(shape, rows), output),
-        length_refusal(refusals::WORK_LENGTH, band_work_length(shape), work),
-    ])
+    length_refusal(Refusal::SampleLength, sample_length(shape), samples)?;
+    length_refusal(Refusal::VectorLength, vector_length(shape), vectors)?;
+    length_refusal(Refusal::OutputLength, band_length(shape, rows), output)?;
+    length_refusal(Refusal::WorkLength, band_work_length(shape), work)
 }
 
 // Tests 1 to 3, 22, 23, 27, and 4 to 7.
+#[tactic(auto, using(refusals::specs::RefusedLaws::stopped, refusals::specs::RefusedLaws::continued, refusals::specs::RefusedLaws::refuses), unfolding(refusals::specs::Tests::first, crate::specs::Bands::band_shape_tests))]
 pub fn band_shape_refusal(
     shape: Shape,
     reference: usize,
@@ -82,26 +85,21 @@ pub fn band_shape_refusal(
     vectors: usize,
     output: usize,
     work: usize,
-) -> u64
-    ensures { result ≡ first (band_shape_tests shape reference top rows samples vectors output work) }
+) -> Result<(), Refusal>
+    ensures { answer_of result ≡ first (band_shape_tests shape reference top rows samples vectors output work) }
 {
-    let burst = burst_refusal(shape, reference);
-    if burst != 0 {
-        return burst;
-    }
-    let part = band_part_refusal(shape, top, rows);
-    if part != 0 {
-        return part;
-    }
+    burst_refusal(shape, reference)?;
+    band_part_refusal(shape, top, rows)?;
     band_lengths(shape, rows, samples, vectors, output, work)
 }
 
 // The length of a band's work area, or 0 where refusal 1, 2, 22 or 23 stands.
+#[tactic(auto, using(refusals::specs::RefusedLaws::not_accepted), unfolding(crate::specs::Bands::band_work_question))]
 pub fn band_work_question(shape: Shape) -> u64
     ensures { result ≡ band_work_question shape }
 {
-    if question_refusal(shape) != 0 {
-        return 0;
+    match question_refusal(shape) {
+        Ok(()) => band_work_length(shape) as u64,
+        Err(_) => 0,
     }
-    band_work_length(shape) as u64
 }

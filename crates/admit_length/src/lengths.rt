@@ -2,9 +2,11 @@
 ghost use Rattle.std.specs.Prelude.{◌≡◌, ◌≤◌};
 ghost use Rattle.admit_length.specs.Prelude.{sample_length, vector_length, output_length, work_length, length_refusal, Allowed, TileSide};
 ghost use Rattle.admit_length.specs.Residuals.{residual_length};
+ghost use Rattle.refusals.specs.Refused.{answer_of, refusal_number};
 
 use geometry::Shape;
 use geometry::tiles::{frame_parts, tile_columns, tile_rows};
+use refusals::{Refusal, refuse};
 
 // Words of samples: count times a frame's, spare ones included.
 pub fn sample_length(shape: Shape) -> usize
@@ -46,9 +48,10 @@ pub fn work_length(shape: Shape) -> usize
     2 * (shape.width * shape.height)
 }
 
-// The test `number` of a buffer of `length`, whose right length is `right`.
-pub fn length_refusal(number: u64, right: usize, length: usize) -> u64
-    ensures { result ≡ length_refusal number right length }
+// The test of a buffer of `length`, whose right length is `right`.
+#[tactic(auto, unfolding(geometry::specs::Shape::length_refusal))]
+pub fn length_refusal(refusal: Refusal, right: usize, length: usize) -> Result<(), Refusal>
+    ensures { answer_of result ≡ length_refusal (refusal_number refusal) right length }
 {
-    if length == right { 0 } else { number }
+    refuse(refusal, length != right)
 }

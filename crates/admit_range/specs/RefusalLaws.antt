@@ -6,10 +6,10 @@ use Rattle.refusals.specs.Numbers as no
 use Rattle.refusals.specs.Tests.{refuse, first}
 use Rattle.geometry.specs.declared.Shape.{Shape}
 use Rattle.geometry.specs.Shape.{size_refusal, count_refusal, reference_refusal, side_allowed, side_refusal, row_refusal, sample_length, vector_length, output_length, work_length, length_refusal}
-use Rattle.geometry.specs.Fits.{MergeFits}
+use Rattle.geometry.specs.Fits.{Allowed, TileSide, MergeFits}
 use Rattle.geometry.specs.ShapeLaws.{right-length}
 use Rattle.admit_length.specs.Order.{shape_tests, burst_tests, merge_lengths, merge_shape_tests}
-use Rattle.admit_length.specs.OrderLaws.{merge-fits}
+use Rattle.admit_length.specs.OrderLaws.{burst-allowed, merge-fits}
 use Rattle.refusals.specs.TestLaws.{among, passed, refuse-not}
 use Rattle.admit_range.specs.Refusals.{narrow_refusal, range_frame_tests, range_shape_tests, filter_refusal}
 
@@ -79,6 +79,16 @@ module _ (s : Shape) (reference samples vectors low high work : ℕ) (frame : fi
   pub high-passed : (first (merge_shape_tests s reference samples vectors high work) ≡ no.wrong_output_length → ⊥) → first (merge_shape_tests s reference samples vectors low work) ≡ first (range_shape_tests s reference samples vectors low high work)
   unfolding shape_tests burst_tests merge_lengths merge_shape_tests range_frame_tests range_shape_tests length_refusal
   high-passed e = rw (none_here, none-there) (went_on 5 (length_refusal no.wrong_work_length (work_length s) work) (wrong low) (wrong high) before_6 (rw none-there at e))
+
+-- what 1 to 3, 22 and 23 let through
+pub frame-allowed : (s : Shape) (reference : ℕ) → first (range_frame_tests s reference) ≡ 0 → row_refusal s ≡ 0 → (Allowed s) × (TileSide s.side)
+unfolding first shape_tests burst_tests range_frame_tests
+frame-allowed s reference frame row =
+    let sized : size_refusal s ≡ 0 = passed {tests = range_frame_tests s reference} frame (search among depth 20) in
+    let counted : count_refusal s ≡ 0 = passed {tests = range_frame_tests s reference} frame (search among depth 20) in
+    let third : reference_refusal s reference ≡ 0 = passed {tests = range_frame_tests s reference} frame (search among depth 20) in
+    let narrowed : narrow_refusal s ≡ 0 = passed {tests = range_frame_tests s reference} frame (search among depth 20) in
+    burst-allowed s reference (rw (sized, counted, third, narrow-allowed s (narrow s narrowed), row) refl)
 
 module _ (s : Shape) (reference samples vectors low high work : ℕ) (all : first (range_shape_tests s reference samples vectors low high work) ≡ 0) where
   side-passed : narrow_refusal s ≡ 0

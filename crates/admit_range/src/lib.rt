@@ -4,38 +4,44 @@
 ghost use Rattle.std.specs.Prelude.{◌≡◌};
 ghost use Rattle.refusals.specs.Tests.{first};
 ghost use Rattle.geometry.specs.Fits.{Sampled};
+ghost use Rattle.refusals.specs.Refused.{answer_of};
 ghost use Rattle.admit_range.specs.Refusals.{narrow_refusal, range_frame_tests, range_shape_tests, filter_refusal, range_content_tests, range_refusal};
 
-use admit_length::order::merge_shape_refusal;
-use admit_size::{count_refusal, reference_refusal, size_refusal};
+use admit_length::lengths::{
+    length_refusal, output_length, sample_length, vector_length, work_length,
+};
+use admit_length::order::shape_refusal;
+use admit_size::{reference_refusal, row_refusal};
 use geometry::Shape;
 use noise::Noise;
 use range::range_noise_refusal;
 use recipe::Tuning;
+use refusals::{Refusal, refuse};
 
 // The only side of tiles that a range of noise may be asked for.
 const RANGE_SIDE: usize = 16;
 
 // 22, for any other side.
-fn narrow_refusal(shape: Shape) -> u64
-    ensures { result ≡ narrow_refusal shape }
+#[tactic(auto, unfolding(crate::specs::Refusals::narrow_refusal))]
+fn narrow_refusal(shape: Shape) -> Result<(), Refusal>
+    ensures { answer_of result ≡ narrow_refusal shape }
 {
-    refusals::refuse(refusals::SIDE, shape.side != RANGE_SIDE)
+    refuse(Refusal::Side, shape.side != RANGE_SIDE)
 }
 
 // Tests 1 to 3, and 22.
-fn frame_refusal(shape: Shape, reference: usize) -> u64
-    ensures { result ≡ first (range_frame_tests shape reference) }
+#[tactic(auto, using(refusals::specs::RefusedLaws::refuses, refusals::specs::RefusedLaws::stopped, refusals::specs::RefusedLaws::continued), unfolding(refusals::specs::Tests::first, crate::specs::Refusals::range_frame_tests))]
+fn frame_refusal(shape: Shape, reference: usize) -> Result<(), Refusal>
+    ensures { answer_of result ≡ first (range_frame_tests shape reference) }
 {
-    let size = size_refusal(shape);
-    let count = count_refusal(shape);
-    let third = reference_refusal(shape, reference);
-    let side = narrow_refusal(shape);
-    refusals::first(&[size, count, third, side])
+    shape_refusal(shape)?;
+    reference_refusal(shape, reference)?;
+    narrow_refusal(shape)
 }
 
-// Tests 1 to 7, 22 and 23, with 6 on either output: merge's for one output and for the other, once the side is 16.
-fn shape_refusal(
+// Tests 1 to 7, 22 and 23, with 6 on either output.
+#[tactic(auto, using(refusals::specs::RefusedLaws::stopped, refusals::specs::RefusedLaws::continued, refusals::specs::RefusedLaws::refuses), unfolding(refusals::specs::Tests::first, crate::specs::Refusals::range_shape_tests))]
+fn lengths_refusal(
     shape: Shape,
     reference: usize,
     samples: usize,
@@ -43,41 +49,40 @@ fn shape_refusal(
     low: usize,
     high: usize,
     work: usize,
-) -> u64
-    ensures { result ≡ first (range_shape_tests shape reference samples vectors low high work) }
+) -> Result<(), Refusal>
+    ensures { answer_of result ≡ first (range_shape_tests shape reference samples vectors low high work) }
 {
-    let frame = frame_refusal(shape, reference);
-    if frame != 0 {
-        return frame;
-    }
-    let second = merge_shape_refusal(shape, reference, samples, vectors, high, work);
-    if second == refusals::OUTPUT_LENGTH {
-        return second;
-    }
-    merge_shape_refusal(shape, reference, samples, vectors, low, work)
+    frame_refusal(shape, reference)?;
+    row_refusal(shape)?;
+    length_refusal(Refusal::SampleLength, sample_length(shape), samples)?;
+    length_refusal(Refusal::VectorLength, vector_length(shape), vectors)?;
+    length_refusal(Refusal::OutputLength, output_length(shape), low)?;
+    length_refusal(Refusal::OutputLength, output_length(shape), high)?;
+    length_refusal(Refusal::WorkLength, work_length(shape), work)
 }
 
 // 24, for s not 0.
-fn filter_refusal(s: u64) -> u64
-    ensures { result ≡ filter_refusal s }
+#[tactic(auto, unfolding(crate::specs::Refusals::filter_refusal))]
+fn filter_refusal(s: u64) -> Result<(), Refusal>
+    ensures { answer_of result ≡ filter_refusal s }
 {
-    refusals::refuse(refusals::SPATIAL_STRENGTH, 0 < s)
+    refuse(Refusal::SpatialStrength, 0 < s)
 }
 
 // Tests 10, 18, 24 and 11.
-fn content_refusal(shape: Shape, tuning: Tuning, samples: &[u16]) -> u64
+#[tactic(auto, using(refusals::specs::RefusedLaws::refuses), unfolding(refusals::specs::Tests::first, crate::specs::Refusals::range_content_tests))]
+fn content_refusal(shape: Shape, tuning: Tuning, samples: &[u16]) -> Result<(), Refusal>
     requires { Sampled shape samples.now }
-    ensures { result ≡ first (range_content_tests shape tuning samples.now) }
+    ensures { answer_of result ≡ first (range_content_tests shape tuning samples.now) }
 {
-    let strength = noise::strength_refusal(tuning.strength);
-    let levels = tuning.black;
-    let black = noise::black_refusal(levels);
-    let filter = filter_refusal(tuning.spatial);
-    let sample = admit_value::sample_refusal(shape, samples);
-    refusals::first(&[strength, black, filter, sample])
+    noise::strength_refusal(tuning.strength)?;
+    noise::black_refusal(tuning.black)?;
+    filter_refusal(tuning.spatial)?;
+    admit_value::sample_refusal(shape, samples)
 }
 
 // All of them.
+#[tactic(auto, using(refusals::specs::RefusedLaws::refuses, refusals::specs::RefusedLaws::stopped, refusals::specs::RefusedLaws::continued), unfolding(refusals::specs::Tests::first, crate::specs::Refusals::range_refusal))]
 pub fn range_refusal(
     shape: Shape,
     reference: usize,
@@ -89,10 +94,10 @@ pub fn range_refusal(
     low: &[u16],
     high: &[u16],
     work: &[i64],
-) -> u64
-    ensures { result ≡ range_refusal shape reference lower upper tuning samples.now vectors.now low.now high.now work.now }
+) -> Result<(), Refusal>
+    ensures { answer_of result ≡ range_refusal shape reference lower upper tuning samples.now vectors.now low.now high.now work.now }
 {
-    let lengths = shape_refusal(
+    lengths_refusal(
         shape,
         reference,
         samples.len(),
@@ -100,17 +105,8 @@ pub fn range_refusal(
         low.len(),
         high.len(),
         work.len(),
-    );
-    if lengths != 0 {
-        return lengths;
-    }
-    let noises = range_noise_refusal(lower, upper);
-    if noises != 0 {
-        return noises;
-    }
-    let content = content_refusal(shape, tuning, samples);
-    if content != 0 {
-        return content;
-    }
+    )?;
+    range_noise_refusal(lower, upper)?;
+    content_refusal(shape, tuning, samples)?;
     admit_value::vector_refusal(vectors)
 }

@@ -3,11 +3,13 @@
 
 ghost use Rattle.std.specs.Prelude.{◌≡◌, ◌+◌, ◌%◌, ◌≤◌};
 ghost use Rattle.algebra.specs.Prelude.{length};
+ghost use Rattle.refusals.specs.Refused.{answer_of};
 ghost use Rattle.admit_value.specs.Bounds.{sample_refusal, vector_refusal};
 ghost use Rattle.geometry.specs.Fits.{Sampled};
 ghost use Rattle.admit_value.specs.Excess.{excess, row_above};
 
 use geometry::Shape;
+use refusals::Refusal;
 
 // Samples are 0 to 4095.
 const SAMPLE_VALUES: u16 = 4096;
@@ -29,27 +31,25 @@ fn row_above(samples: &[u16], start: usize, width: usize) -> bool
     requires { (start + width ≤ length samples.now) × (width % 64 ≡ 0) }
     ensures { result ≡ row_above samples.now start width }
 {
-    let mut column = 0;
-    while column < width {
+    for column in (0..width).step_by(64) {
         if excess(samples, start + column) > 0 {
             return true;
         }
-        column += 64;
     }
     false
 }
 
 // Refusal 11, row by row: spare words are not read.
-pub fn sample_refusal(shape: Shape, samples: &[u16]) -> u64
+pub fn sample_refusal(shape: Shape, samples: &[u16]) -> Result<(), Refusal>
     requires { Sampled shape samples.now }
-    ensures { result ≡ sample_refusal shape samples.now }
+    ensures { answer_of result ≡ sample_refusal shape samples.now }
 {
     for row in 0..shape.count * shape.height {
         if row_above(samples, row * shape.pitch, shape.width) {
-            return refusals::SAMPLE_VALUE;
+            return Err(Refusal::SampleValue);
         }
     }
-    0
+    Ok(())
 }
 
 // Vector parts are -172 to 172.
@@ -58,19 +58,13 @@ const PART_LEAST: i32 = -172;
 const PART_MOST: i32 = 172;
 
 // Refusal 12.
-pub fn vector_refusal(vectors: &[i32]) -> u64
-    ensures { result ≡ vector_refusal vectors.now }
+pub fn vector_refusal(vectors: &[i32]) -> Result<(), Refusal>
+    ensures { answer_of result ≡ vector_refusal vectors.now }
 {
-    let mut i = 0;
-    while i < vectors.len() {
-        let part = vectors[i];
-        if part < PART_LEAST {
-            return refusals::VECTOR_PART;
+    for &part in vectors {
+        if part < PART_LEAST || PART_MOST < part {
+            return Err(Refusal::VectorPart);
         }
-        if part > PART_MOST {
-            return refusals::VECTOR_PART;
-        }
-        i += 1;
     }
-    0
+    Ok(())
 }

@@ -91,7 +91,7 @@ pub standing-kept : {shape : Shape} {d l : List ℤ} → Standing shape d → Ke
 standing-kept {shape} s k = record { stored = λ n. kept-stored k (area_at shape n) (s.stored n) (area-before shape n) }
 
 -- what a level's loop asks of its images and its grid
-pub level-ready : {shape : Shape} {l : List ℤ} (k at : ℕ) {a : Area} {g : Grid} → Site shape l k at → a ≡ area_at shape k → g ≡ grid_at shape k at → Room l a at g.rows g.columns
+pub level-ready : {shape : Shape} {l : List ℤ} (k at : ℕ) {a : Area} {g : Grid} → Site shape l k at → a ≡ area_at shape k → g ≡ grid_at shape k at → Room l a g.at g.rows g.columns
 unfolding grid_at
 level-ready {shape} {l} k at s ea eg =
     let b = area-before shape k in
@@ -175,10 +175,10 @@ module _ {shape : Shape} {d : List ℤ} (p : Prepared shape d) where
   unfolding rows1 finer_rows
   counted1 c g r ec e = counted shape 1 2 (after (site3 shape)) (after (site2 shape)) r p.standing ec e
 
-  counted0 : {l : List ℤ} {a : Area} (c g : Grid) → Reached d (2 * pyramid_length shape) c (field1 (pairs_in shape d)) l → c ≡ grid_at shape 1 c.at → a ≡ area_at shape 0 → g ≡ grid_at shape 0 0 → finer_rows_in shape.side 0 l a c g.rows g.columns ≡ rows0 shape.side (pairs_in shape d)
+  counted0 : {l : List ℤ} {a : Area} (c g : Grid) (to : ℕ) → Reached d (2 * pyramid_length shape) c (field1 (pairs_in shape d)) l → c ≡ grid_at shape 1 c.at → a ≡ area_at shape 0 → g ≡ grid_at shape 0 to → finer_rows_in shape.side 0 l a c g.rows g.columns ≡ rows0 shape.side (pairs_in shape d)
   unfolding rows0 pairs_in
-  counted0 {l} {a} c g r ec ea eg =
-      ap (λ a. finer_rows_in shape.side 0 l a c g.rows g.columns) ea ∙ counted shape 0 1 c.at 0 r p.standing ec eg
+  counted0 {l} {a} c g to r ec ea eg =
+      ap (λ a. finer_rows_in shape.side 0 l a c g.rows g.columns) ea ∙ counted shape 0 1 c.at to r p.standing ec eg
 
   -- and level 0's as well, from what stands there
   pub finest-field : {l : List ℤ} (c : Grid) → Reached d (2 * pyramid_length shape) c (field1 (pairs_in shape d)) l → c ≡ grid_at shape 1 c.at → finest_in shape.side l (area_at shape 0) c ≡ field0 shape.side (pairs_in shape d)
@@ -196,7 +196,7 @@ module _ {shape : Shape} {d : List ℤ} (p : Prepared shape d) where
       rw (← finest-tiles p.sided ok.high, ← finest-tiles p.sided ok.wide)
       (ap₂ (λ q w. residuals (finest_level shape.side) q (level_tiles (finest_level shape.side) shape.height) (level_tiles (finest_level shape.side) shape.width) w) (finest-pair r) (finest-field c r e))
 
-  pub aligned : {l v v' : List ℤ} {to n : ℕ} {t : Sums} {c g : Grid} {a : Area} → Coarse shape d l c n → a ≡ area_at shape 0 → g ≡ grid_at shape 0 0 → to + frame_parts shape ≤ length v → Finest shape.side l a c g.rows g.columns v to v' t → Aligned shape d v to l v' (record { residual = t.residual; rows = n + t.rows })
+  pub aligned : {l v v' : List ℤ} {to n : ℕ} {t : Sums} {c g : Grid} {a : Area} → Coarse shape d l c n → a ≡ area_at shape 0 → g ≡ grid_at shape 0 to → to + frame_parts shape ≤ length v → Finest shape.side l a c g.rows g.columns v g.at v' t → Aligned shape d v to l v' (record { residual = t.residual; rows = n + t.rows })
   unfolding grid_at frame_rows
   aligned {l} {v} {v'} {to} {n} {t} {c} {g} {a} k ea eg fits fin =
       let ok = p.allowed in
@@ -213,6 +213,6 @@ module _ {shape : Shape} {d : List ℤ} (p : Prepared shape d) where
             (word-most columns w 172 (field0-within (pairs_in shape d) shape.side) i);
         residual_is = f.residual_is ∙ finest-sum c r ec;
         most = fin.most;
-        rows_are = ap₂ ◌+◌ k.rows_are (fin.rows_are ∙ counted0 c g r ec ea eg);
+        rows_are = ap₂ ◌+◌ k.rows_are (fin.rows_are ∙ counted0 c g to r ec ea eg);
         kept = r.kept;
       }

@@ -66,7 +66,7 @@ pub fn align_frames(
     }
     Totals {
         residuals: sums,
-        rows: rows,
+        rows,
     }
 }
 

@@ -4,7 +4,7 @@ ghost use Rattle.align_burst.specs.Prelude.{length, Allowed, TileSide, frame_par
 ghost use Rattle.align_burst.specs.Sites.{image_number, area_at, grid_at, after, level_in, level_rows_in, Site, LaidAt, Prepared, Coarse, Aligned};
 
 use align_field::{Sums, finest_field, level_field};
-use align_level::{Grid, half_of};
+use align_level::{Grid, Refinement, half_of};
 use align_pyramid::images::Raster;
 use align_tile::Area;
 use geometry::Shape;
@@ -51,14 +51,14 @@ pub fn area_at(shape: Shape, level: usize) -> Area
     let width = shape.width / scale;
     Area {
         reference: Raster {
-            from: from,
-            height: height,
-            width: width,
+            from,
+            height,
+            width,
         },
         other: Raster {
             from: length + from,
-            height: height,
-            width: width,
+            height,
+            width,
         },
     }
 }
@@ -71,7 +71,7 @@ fn grid_at(shape: Shape, level: usize, at: usize) -> Grid
     let half = half_of(shape.side, level);
     let scale = scale_of(shape.side, level);
     Grid {
-        at: at,
+        at,
         rows: tile_count(half, shape.height / scale),
         columns: tile_count(half, shape.width / scale),
     }
@@ -92,20 +92,13 @@ fn lay_level(shape: Shape, work: &mut [i64], level: usize, coarse: Grid, at: usi
 {
     let area = area_at(shape, level);
     let grid = grid_at(shape, level, at);
-    let rows = level_field(
-        &mut *work,
-        area,
-        shape.side,
+    let step = Refinement {
+        side: shape.side,
         level,
         coarse,
-        at,
-        grid.rows,
-        grid.columns,
-    );
-    Reach {
-        grid: grid,
-        rows: rows,
-    }
+    };
+    let rows = level_field(&mut *work, area, step, grid);
+    Reach { grid, rows }
 }
 
 // Levels 3 to 1, behind the two pyramids.
@@ -126,7 +119,7 @@ fn coarse_levels(shape: Shape, work: &mut [i64]) -> Reach
     let first = lay_level(shape, &mut *work, 1, middle, after(middle));
     let grid = first.grid;
     Reach {
-        grid: grid,
+        grid,
         rows: third.rows + second.rows + first.rows,
     }
 }
@@ -139,17 +132,8 @@ pub fn align_levels(shape: Shape, work: &mut [i64], vectors: &mut [i32], to: usi
     let reach = coarse_levels(shape, &mut *work);
     let coarse = reach.grid;
     let area = area_at(shape, 0);
-    let grid = grid_at(shape, 0, 0);
-    let finest = finest_field(
-        &*work,
-        area,
-        shape.side,
-        coarse,
-        &mut *vectors,
-        to,
-        grid.rows,
-        grid.columns,
-    );
+    let grid = grid_at(shape, 0, to);
+    let finest = finest_field(&*work, area, shape.side, coarse, &mut *vectors, grid);
     Sums {
         residual: finest.residual,
         rows: reach.rows + finest.rows,

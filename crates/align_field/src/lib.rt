@@ -7,7 +7,7 @@ ghost use Rattle.geometry.specs.Fits.{TileSide};
 ghost use Rattle.align_patch.specs.Bounds.{Within};
 ghost use Rattle.align_field.specs.Loops.{Few, Ends, Room, Laid, field_in, rows_in, Finest};
 
-use align_level::{Grid, level_tile};
+use align_level::{Grid, Refinement, level_tile};
 use align_tile::Area;
 use geometry::vectors::Vector;
 
@@ -29,31 +29,21 @@ pub struct Sums {
     pub rows: u64,
 }
 
-// A level, with level 0's tiles of a side, into the work area from `to` on, and the tile rows that were summed. Level 3 reads no coarse vectors.
-pub fn level_field(
-    work: &mut [i64],
-    area: Area,
-    side: usize,
-    level: usize,
-    coarse: Grid,
-    to: usize,
-    rows: usize,
-    columns: usize,
-) -> u64
-    requires { record { fits : Room work.old area to rows columns; led : Led work.old level coarse; ends : Ends level coarse to; sided : TileSide side } }
-    ensures { Laid work.old to rows columns (field_in side level work.old area coarse) (rows_in side level work.old area coarse rows columns) work.new result }
+// A level's tiles, whose vectors go into the grid's place in the work area, and the tile rows that were summed. Level 3 reads no coarse vectors.
+pub fn level_field(work: &mut [i64], area: Area, step: Refinement, grid: Grid) -> u64
+    requires { record { fits : Room work.old area grid.at grid.rows grid.columns; led : Led work.old step.level step.coarse; ends : Ends step.level step.coarse grid.at; sided : TileSide step.side } }
+    ensures { Laid work.old grid.at grid.rows grid.columns (field_in step.side step.level work.old area step.coarse) (rows_in step.side step.level work.old area step.coarse grid.rows grid.columns) work.new result }
 {
+    let columns = grid.columns;
     let mut samples = [0u16; 1024];
     let mut window = [0u16; 1600];
     let mut other = [0u16; 1024];
     let mut summed: u64 = 0;
-    for k in 0..rows * columns {
+    for k in 0..grid.rows * columns {
         let found = level_tile(
             &*work,
             area,
-            side,
-            level,
-            coarse,
+            step,
             k / columns,
             k % columns,
             &mut samples,
@@ -61,7 +51,7 @@ pub fn level_field(
             &mut other,
         );
         let v = found.vector;
-        put(&mut *work, to + 2 * k, v);
+        put(&mut *work, grid.at + 2 * k, v);
         summed += found.rows;
     }
     summed
@@ -86,7 +76,7 @@ fn hand_over(vectors: &mut [i32], at: usize, v: Vector)
     set_parts(&mut *vectors, at, down, right);
 }
 
-// Level 0 with tiles of a side, into the lent vectors from `to` on, the sum of its residuals, and the tile rows that were summed.
+// Level 0 with tiles of a side, into the grid's place in the lent vectors, the sum of its residuals, and the tile rows that were summed.
 // A loop of its own: the lent vectors are an array of another type than the work area.
 pub fn finest_field(
     work: &[i64],
@@ -94,25 +84,27 @@ pub fn finest_field(
     side: usize,
     coarse: Grid,
     vectors: &mut [i32],
-    to: usize,
-    rows: usize,
-    columns: usize,
+    grid: Grid,
 ) -> Sums
-    requires { record { stored : Stored work.now area; coarse_vectors : Vectors work.now coarse; sided : TileSide side; few : Few rows columns; room : to + 2 * (rows * columns) ≤ length vectors.old } }
-    ensures { Finest side work.now area coarse rows columns vectors.old to vectors.new result }
+    requires { record { stored : Stored work.now area; coarse_vectors : Vectors work.now coarse; sided : TileSide side; few : Few grid.rows grid.columns; room : grid.at + 2 * (grid.rows * grid.columns) ≤ length vectors.old } }
+    ensures { Finest side work.now area coarse grid.rows grid.columns vectors.old grid.at vectors.new result }
 {
+    let columns = grid.columns;
+    let step = Refinement {
+        side,
+        level: 0,
+        coarse,
+    };
     let mut samples = [0u16; 1024];
     let mut window = [0u16; 1600];
     let mut other = [0u16; 1024];
-    let mut sum: u64 = 0;
-    let mut summed: u64 = 0;
-    for k in 0..rows * columns {
+    let mut residual: u64 = 0;
+    let mut rows: u64 = 0;
+    for k in 0..grid.rows * columns {
         let found = level_tile(
             work,
             area,
-            side,
-            0,
-            coarse,
+            step,
             k / columns,
             k % columns,
             &mut samples,
@@ -120,12 +112,9 @@ pub fn finest_field(
             &mut other,
         );
         let v = found.vector;
-        hand_over(&mut *vectors, to + 2 * k, v);
-        sum += found.residual;
-        summed += found.rows;
+        hand_over(&mut *vectors, grid.at + 2 * k, v);
+        residual += found.residual;
+        rows += found.rows;
     }
-    Sums {
-        residual: sum,
-        rows: summed,
-    }
+    Sums { residual, rows }
 }

@@ -1,10 +1,11 @@
 -- Inner vocabulary: a coarse level's vectors where they stand in the work area, and the answers for a level's tiles.
 use Rattle.std.specs.Prelude.{◌≡◌, ◌+◌, ◌*◌, ◌≤◌, ◌<◌}
-use Rattle.align_level.specs.Prelude.{List, ℕ, zero, suc, length, get_or, ℤ, pos, nat_abs, level3, VectorField, still, search_rows, candidate_rows, Tile, Vector, Found, TileSide, pair_in, Stored, Placed, answer}
+use Rattle.align_level.specs.Prelude.{List, ℕ, zero, suc, length, get_or, ℤ, pos, nat_abs, level3, VectorField, still, search_rows, candidate_rows, guessed, Pair, Tile, Vector, Found, TileSide, pair_in, Stored, Placed, answer}
 use Rattle.align_level.specs.declared.Grid.{Grid}
 use Rattle.align_tile.specs.declared.Area.{Area}
 use Rattle.align_level.specs.Magnitudes.{coarse_most, found_most, tile_rows_most}
 use Rattle.align_residual.specs.Magnitudes.{residual_most}
+use Rattle.align_tile.specs.Magnitudes.{guess_most}
 use Rattle.align_patch.specs.Bounds.{Within}
 use Rattle.align_level.specs.Fields.{level_at, level_tile, coarsest, from_coarse, finer}
 use Rattle.align_level.specs.Steps.{step_to}
@@ -74,3 +75,10 @@ pub record Buffers (samples window other : ℕ) : Type 0 where
   pub samples_room : 1024 ≤ samples
   pub window_room : 1600 ≤ window
   pub other_room : 1024 ≤ other
+
+-- the vectors that a tile's guess is chosen from at a level from 2 to 0, and how large they are
+pub record Chosen (side level : ℕ) (words : List ℤ) (c : Grid) (row column : ℕ) (own sideways vertically : Vector) : Type 0 where
+  pub guess : (p : Pair) (t : Tile) → guessed p t own sideways vertically ≡ from_coarse (step_to side level) c.rows c.columns p t (field_at words c.at c.columns) row column
+  pub own_near : Within guess_most own
+  pub sideways_near : Within guess_most sideways
+  pub vertically_near : Within guess_most vertically

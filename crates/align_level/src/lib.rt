@@ -8,11 +8,11 @@ ghost use Rattle.align_level.specs.Fields.{level_at, level_tile};
 ghost use Rattle.align_level.specs.Steps.{step_to};
 ghost use Rattle.align_level.specs.Magnitudes.{coarse_most};
 ghost use Rattle.align_tile.specs.Magnitudes.{guess_most};
-ghost use Rattle.align_level.specs.Grids.{field_at, Vectors, Led, answer_at, Answered, LevelTile, Buffers};
+ghost use Rattle.align_level.specs.Grids.{field_at, Vectors, Led, answer_at, Answered, LevelTile, Buffers, Chosen};
 
 use align_patch::copy_square;
 use align_residual::Tile;
-use align_tile::{Area, Found, refine, refine_candidates};
+use align_tile::{Area, Candidates, Found, refine, refine_candidates};
 use geometry::tiles::{Quotient, capped, neighbour, origin, own};
 use geometry::vectors::Vector;
 
@@ -93,10 +93,7 @@ fn coarse_vector(words: &[i64], coarse: Grid, row: usize, column: usize, f: usiz
     let k = coarse.at + 2 * (row * coarse.columns + column);
     let down = coarse_part(words, k, f);
     let right = coarse_part(words, k + 1, f);
-    Vector {
-        down: down,
-        right: right,
-    }
+    Vector { down, right }
 }
 
 // Whether a level's residuals are of squared differences.
@@ -107,24 +104,49 @@ fn is_squared(side: usize, level: usize) -> bool
     level != 0
 }
 
-// The vector of a tile, from the coarse vectors around it, at level 3 from (0,0). `window` and `other` are for samples of the other image.
+// The step to a level, with level 0's tiles of a side, from the vectors of the coarser level. Level 3 has none.
+#[derive(Clone, Copy)]
+pub struct Refinement {
+    pub side: usize,
+    pub level: usize,
+    pub coarse: Grid,
+}
+
+// The vectors around a tile, times f, that its guess is chosen from.
+fn candidates(words: &[i64], step: Refinement, row: usize, column: usize) -> Candidates
+    requires { record { finer : step.level ≤ 2; vectors : Vectors words.now step.coarse; row-most : row ≤ 4096; column-most : column ≤ 4096 } }
+    ensures { Chosen step.side step.level words.now step.coarse row column result.own result.sideways result.vertically }
+{
+    let coarse = step.coarse;
+    let q = quotient(step.side, step.level);
+    let f = factor(step.side, step.level);
+    let own_row = capped(coarse.rows, own(q, row));
+    let next_row = capped(coarse.rows, neighbour(q, row));
+    let own_column = capped(coarse.columns, own(q, column));
+    let next_column = capped(coarse.columns, neighbour(q, column));
+    Candidates {
+        own: coarse_vector(words, coarse, own_row, own_column, f),
+        sideways: coarse_vector(words, coarse, own_row, next_column, f),
+        vertically: coarse_vector(words, coarse, next_row, own_column, f),
+    }
+}
+
+// The vector of a tile, whose samples are at hand, at level 3 from (0,0). `window` and `other` are for samples of the other image.
 fn refine_level(
     words: &[i64],
     area: Area,
     tile: Tile,
+    step: Refinement,
+    row: usize,
+    column: usize,
     samples: &[u16],
     window: &mut [u16],
     other: &mut [u16],
-    side: usize,
-    level: usize,
-    coarse: Grid,
-    row: usize,
-    column: usize,
 ) -> Found
-    requires { record { at : LevelTile words.now area tile side level coarse row column; ready : Ready words.now area tile samples.now; roomy : Roomy tile (length samples.now) (length window.old) (length other.old) } }
-    ensures { Answered (answer_at side level words.now area coarse row column) result }
+    requires { record { at : LevelTile words.now area tile step.side step.level step.coarse row column; ready : Ready words.now area tile samples.now; roomy : Roomy tile (length samples.now) (length window.old) (length other.old) } }
+    ensures { Answered (answer_at step.side step.level words.now area step.coarse row column) result }
 {
-    if level == 3 {
+    if step.level == 3 {
         return refine(
             words,
             area,
@@ -136,16 +158,8 @@ fn refine_level(
             0,
         );
     }
-    let squared = is_squared(side, level);
-    let q = quotient(side, level);
-    let f = factor(side, level);
-    let own_row = capped(coarse.rows, own(q, row));
-    let next_row = capped(coarse.rows, neighbour(q, row));
-    let own_column = capped(coarse.columns, own(q, column));
-    let next_column = capped(coarse.columns, neighbour(q, column));
-    let here = coarse_vector(words, coarse, own_row, own_column, f);
-    let sideways = coarse_vector(words, coarse, own_row, next_column, f);
-    let vertically = coarse_vector(words, coarse, next_row, own_column, f);
+    let around = candidates(words, step, row, column);
+    let squared = is_squared(step.side, step.level);
     refine_candidates(
         words,
         area,
@@ -154,29 +168,26 @@ fn refine_level(
         &mut *window,
         &mut *other,
         squared,
-        here,
-        sideways,
-        vertically,
+        around,
     )
 }
 
-// The vector of a tile, whose samples are copied first. `samples`, `window` and `other` are for samples.
-fn sampled_tile(
+// The vector of a tile of a level. Its samples are copied once, for the candidates and for the search. `samples`, `window` and `other` are for samples, of
+// either side; they are slices, since `room` lets a caller lend longer ones.
+pub fn level_tile(
     words: &[i64],
     area: Area,
-    tile: Tile,
+    step: Refinement,
+    row: usize,
+    column: usize,
     samples: &mut [u16],
     window: &mut [u16],
     other: &mut [u16],
-    side: usize,
-    level: usize,
-    coarse: Grid,
-    row: usize,
-    column: usize,
 ) -> Found
-    requires { (LevelTile words.now area tile side level coarse row column) × (Roomy tile (length samples.old) (length window.old) (length other.old)) }
-    ensures { Answered (answer_at side level words.now area coarse row column) result }
+    requires { record { stored : Stored words.now area; led : Led words.now step.level step.coarse; sided : TileSide step.side; row-most : row ≤ 4096; column-most : column ≤ 4096; room : Buffers (length samples.old) (length window.old) (length other.old) } }
+    ensures { Answered (answer_at step.side step.level words.now area step.coarse row column) result }
 {
+    let tile = tile_at(step.side, step.level, row, column);
     let image = area.reference;
     let origin = tile.origin;
     copy_square(words, image, origin, tile.side, &mut *samples);
@@ -184,45 +195,11 @@ fn sampled_tile(
         words,
         area,
         tile,
+        step,
+        row,
+        column,
         &*samples,
         &mut *window,
         &mut *other,
-        side,
-        level,
-        coarse,
-        row,
-        column,
-    )
-}
-
-// The vector of a tile of a level, with level 0's tiles of a side. `samples`, `window` and `other` are for samples, of either side.
-pub fn level_tile(
-    words: &[i64],
-    area: Area,
-    side: usize,
-    level: usize,
-    coarse: Grid,
-    row: usize,
-    column: usize,
-    samples: &mut [u16],
-    window: &mut [u16],
-    other: &mut [u16],
-) -> Found
-    requires { record { stored : Stored words.now area; led : Led words.now level coarse; sided : TileSide side; row-most : row ≤ 4096; column-most : column ≤ 4096; room : Buffers (length samples.old) (length window.old) (length other.old) } }
-    ensures { Answered (answer_at side level words.now area coarse row column) result }
-{
-    let tile = tile_at(side, level, row, column);
-    sampled_tile(
-        words,
-        area,
-        tile,
-        &mut *samples,
-        &mut *window,
-        &mut *other,
-        side,
-        level,
-        coarse,
-        row,
-        column,
     )
 }

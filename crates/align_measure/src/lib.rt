@@ -38,10 +38,7 @@ fn vector_at(vectors: &[i32], place: usize) -> Vector
 {
     let down = vectors[place] as i64;
     let right = vectors[place + 1] as i64;
-    Vector {
-        down: down,
-        right: right,
-    }
+    Vector { down, right }
 }
 
 // The residuals of a frame's tiles, from `to` on; their vectors stand from twice that place on.

@@ -12,6 +12,7 @@ ghost use Rattle.align_patch.specs.Period.{place_in, next_in};
 
 use align_pyramid::images::Raster;
 use geometry::vectors::Vector;
+use std::array::from_fn;
 
 // A row or a column, `j` further.
 fn shifted(z: i64, j: usize) -> i64
@@ -29,37 +30,13 @@ fn sample(words: &[i64], k: usize) -> u16
     words[k] as u16
 }
 
-// One of the eight samples from `from` on.
-fn one(words: &[i64], from: usize, j: usize) -> u16
-    requires { (Row words.now from 8) × (j < 8) }
-    ensures { result ≡ word_at words.now (from + j) }
-{
-    sample(words, from + j)
-}
-
-// All of them, read before the first is stored: nothing has to be known of where they go, and both become vector instructions.
-fn eight(words: &[i64], from: usize) -> [u16; 8]
-    requires { Row words.now from 8 }
-    ensures { result ≡ tab 8 (λ j. word_at words.now (from + j)) }
-{
-    [
-        one(words, from, 0),
-        one(words, from, 1),
-        one(words, from, 2),
-        one(words, from, 3),
-        one(words, from, 4),
-        one(words, from, 5),
-        one(words, from, 6),
-        one(words, from, 7),
-    ]
-}
-
-// They are copied.
+// Eight samples from `from` on, all read before the first is stored: nothing has to be known of where they go, and both become vector instructions.
+// By `copy_from_slice` they would be stored one by one, in twice the time.
 fn copy_eight(words: &[i64], from: usize, out: &mut [u16], to: usize)
     requires { (Row words.now from 8) × (to + 8 ≤ length out.old) }
     ensures { out.new ≡ written out.old to (λ j. word_at words.now (from + j)) 8 }
 {
-    let r = eight(words, from);
+    let r: [u16; 8] = from_fn(|j| sample(words, from + j));
     for j in 0..8 {
         out[to + j] = r[j];
     }

@@ -85,25 +85,16 @@ pub fn halve_down(work: &mut [i64], image: Raster)
     requires { Room work.old image }
     ensures { Halvings image (image_in work.old image) work.old 5 work.new }
 {
-    let mut from = image.from;
-    let mut h = image.height;
-    let mut w = image.width;
+    let mut image = image;
     // 4096 columns at most, and one at each end
     let mut sums = [0u32; 4098];
     for _ in 0..5usize {
-        let to = from + h * w;
-        halve(
-            &mut *work,
-            Raster {
-                from: from,
-                height: h,
-                width: w,
-            },
-            to,
-            &mut sums,
-        );
-        from = to;
-        h = h / 2;
-        w = w / 2;
+        let to = image.from + image.height * image.width;
+        halve(&mut *work, image, to, &mut sums);
+        image = Raster {
+            from: to,
+            height: image.height / 2,
+            width: image.width / 2,
+        };
     }
 }

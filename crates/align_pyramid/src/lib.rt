@@ -41,8 +41,8 @@ pub fn offset(shape: Shape, k: usize) -> usize
     let mut sum: usize = 0;
     for _ in 0..k {
         sum += height * width;
-        height = height / 2;
-        width = width / 2;
+        height /= 2;
+        width /= 2;
     }
     sum
 }

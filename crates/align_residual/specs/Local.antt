@@ -41,9 +41,9 @@ pair_sum f tile window start stride = sum_n 16 (λ i. sum_n 16 (λ j. f (get_or 
 abbrev pub beside_sum : (tile window : List ℕ) → (a b : ℕ) → ℕ
 beside_sum tile window a b = gap (get_or tile a 0) (get_or window b 0) + gap (get_or tile (a + 8) 0) (get_or window (b + 8) 0)
 
--- the sums of squares of two rows of a tile of side 16, the upper from `a` on, and the window's of side 24, the upper from `b` on
-pub record SquaredRows (tile window : List ℕ) (a b upper lower : ℕ) : Type 0 where
-  pub upper_is : upper ≡ row_sum true tile window a b 16
-  pub lower_is : lower ≡ row_sum true tile window (a + 16) (b + 24) 16
+-- the sums of squares of two rows of a tile, the upper from `a` on, and the window's, 8 wider, the upper from `b` on
+pub record SquaredRows (side : ℕ) (tile window : List ℕ) (a b upper lower : ℕ) : Type 0 where
+  pub upper_is : upper ≡ row_sum true tile window a b side
+  pub lower_is : lower ≡ row_sum true tile window (a + side) (b + side + 8) side
   pub upper_most : upper ≤ squared_row_most
   pub lower_most : lower ≤ squared_row_most

@@ -101,12 +101,12 @@ beside-row tile window a b =
     sum_n-cong 8 _ _ (λ j h. ap₂ (λ m n. f j + gap (get_or tile m 0) (get_or window n 0)) (omega arith) (omega arith))
     ∙ halves f
 
--- and two of them
-pub four-rows : (tile window : List ℕ) (a b : ℕ) → sum_n 8 (λ j. beside_sum tile window (a + j) (b + j) + beside_sum tile window (a + j + 16) (b + j + 24)) ≡ row_sum false tile window a b 16 + row_sum false tile window (a + 16) (b + 24) 16
-four-rows tile window a b =
-    sum_n-add 8 (λ j. beside_sum tile window (a + j) (b + j)) (λ j. beside_sum tile window (a + j + 16) (b + j + 24))
+-- and two of them, the second `step` further in the window
+pub four-rows : (tile window : List ℕ) (a b step : ℕ) → sum_n 8 (λ j. beside_sum tile window (a + j) (b + j) + beside_sum tile window (a + j + 16) (b + j + step)) ≡ row_sum false tile window a b 16 + row_sum false tile window (a + 16) (b + step) 16
+four-rows tile window a b step =
+    sum_n-add 8 (λ j. beside_sum tile window (a + j) (b + j)) (λ j. beside_sum tile window (a + j + 16) (b + j + step))
     ∙ ap₂ ◌+◌ (beside-row tile window a b)
-    (sum_n-cong 8 _ _ (λ j h. ap₂ (beside_sum tile window) (omega arith) (omega arith)) ∙ beside-row tile window (a + 16) (b + 24))
+    (sum_n-cong 8 _ _ (λ j h. ap₂ (beside_sum tile window) (omega arith) (omega arith)) ∙ beside-row tile window (a + 16) (b + step))
 
 -- what eight numbers of 16 bits add up to
 pub eight-done : {f : ℕ → ℕ} {j sum total : ℕ} → Summed f 65535 8 j sum → 8 ≤ j → sum_n 8 f ≡ total → (sum ≡ total) × (sum ≤ pair_most)

@@ -1,7 +1,6 @@
 // Residuals on local arrays: sums of absolute and squared differences of a tile and of its rows against a window.
 #![tactic(auto)]
 
-pub mod eight;
 pub mod sixteen;
 pub mod thirty_two;
 

@@ -9,6 +9,8 @@ ghost use Rattle.align_residual.specs.Magnitudes.{square_most, four_most, pair_m
 ghost use Rattle.align_residual.specs.Residual.{gap};
 ghost use Rattle.align_residual.specs.Local.{row_sum, square_sum, column_sum, beside_sum, Compared, SquaredRows};
 
+use std::array::from_fn;
+
 // Two samples, the tile's at `a` and the window's at `b`.
 fn apart(tile: &[u16], window: &[u16], a: usize, b: usize) -> u16
     requires { Compared tile.now window.now (a + 1) (b + 1) }
@@ -36,11 +38,7 @@ fn columns(tile: &[u16], window: &[u16], a: usize, b: usize, stride: usize) -> [
     requires { (Compared tile.now window.now (a + 64) (b + 3 * stride + 16)) × (stride ≤ 64) }
     ensures { result ≡ tab 16 (λ j. column_sum gap tile.now window.now (a + j) (b + j) stride) }
 {
-    let mut sums = [0u16; 16];
-    for j in 0..16 {
-        sums[j] = column(tile, window, a + j, b + j, stride);
-    }
-    sums
+    from_fn(|j| column(tile, window, a + j, b + j, stride))
 }
 
 // A sample in 32 bits.
@@ -83,13 +81,13 @@ pub fn beside(tile: &[u16], window: &[u16], a: usize, b: usize) -> u16
     first + second
 }
 
-// The same of two rows, one under the other.
-fn four(tile: &[u16], window: &[u16], a: usize, b: usize) -> u16
-    requires { Compared tile.now window.now (a + 25) (b + 33) }
-    ensures { (result ≡ beside_sum tile.now window.now a b + beside_sum tile.now window.now (a + 16) (b + 24)) × (result ≤ four_most) }
+// The same, and the two that stand 16 further in the tile and `STEP` further in the window.
+fn four<const STEP: usize>(tile: &[u16], window: &[u16], a: usize, b: usize) -> u16
+    requires { Compared tile.now window.now (a + 25) (b + STEP + 9) }
+    ensures { (result ≡ beside_sum tile.now window.now a b + beside_sum tile.now window.now (a + 16) (b + STEP)) × (result ≤ four_most) }
 {
     let upper = beside(tile, window, a, b);
-    let lower = beside(tile, window, a + 16, b + 24);
+    let lower = beside(tile, window, a + 16, b + STEP);
     upper + lower
 }
 
@@ -105,14 +103,15 @@ pub fn absolute_row(tile: &[u16], window: &[u16], a: usize, b: usize) -> u32
     sum
 }
 
-// That row and the one under it, in a window of side 24.
-pub fn two_rows(tile: &[u16], window: &[u16], a: usize, b: usize) -> u32
-    requires { Compared tile.now window.now (a + 32) (b + 40) }
-    ensures { (result ≡ row_sum false tile.now window.now a b 16 + row_sum false tile.now window.now (a + 16) (b + 24) 16) × (result ≤ pair_most) }
+// Sixteen samples from there on, and the 16 behind them in the tile against those `STEP` further in the window: two rows of side 16, where the
+// window's stand 24 apart, and with 16 one row of side 32.
+pub fn absolute_pair<const STEP: usize>(tile: &[u16], window: &[u16], a: usize, b: usize) -> u32
+    requires { Compared tile.now window.now (a + 32) (b + STEP + 16) }
+    ensures { (result ≡ row_sum false tile.now window.now a b 16 + row_sum false tile.now window.now (a + 16) (b + STEP) 16) × (result ≤ pair_most) }
 {
     let mut sum: u32 = 0;
     for j in 0..8 {
-        sum += wide(four(tile, window, a + j, b + j));
+        sum += wide(four::<STEP>(tile, window, a + j, b + j));
     }
     sum
 }
@@ -133,20 +132,17 @@ pub struct Two {
     pub lower: u32,
 }
 
-// Squared differences of a row of the tile from `a` on and the window's from `b` on, and of the row under it. One call for both, so that it is
-// compiled into the loop over the rows.
-pub fn squared_rows(tile: &[u16], window: &[u16], a: usize, b: usize) -> Two
-    requires { Compared tile.now window.now (a + 32) (b + 40) }
-    ensures { SquaredRows tile.now window.now a b result.upper result.lower }
+// Squared differences of a row of the tile from `a` on and the window's from `b` on, and of the row under it, in a window 8 wider than the tile. One
+// call for both, so that it is compiled into the loop over the rows.
+pub fn squared_rows<const SIDE: usize>(tile: &[u16], window: &[u16], a: usize, b: usize) -> Two
+    requires { (Compared tile.now window.now (a + 2 * SIDE) (b + 2 * SIDE + 8)) × (SIDE ≤ 16) }
+    ensures { SquaredRows SIDE tile.now window.now a b result.upper result.lower }
 {
     let mut upper: u32 = 0;
     let mut lower: u32 = 0;
-    for j in 0..16 {
+    for j in 0..SIDE {
         upper += square(tile[a + j], window[b + j]);
-        lower += square(tile[a + 16 + j], window[b + 24 + j]);
+        lower += square(tile[a + SIDE + j], window[b + SIDE + 8 + j]);
     }
-    Two {
-        upper: upper,
-        lower: lower,
-    }
+    Two { upper, lower }
 }

@@ -1,31 +1,17 @@
 // Sums of absolute differences over tiles of side 32, row by row: its distances are added by fours in 16 bits, as those of two rows are at side 16.
 ghost use Rattle.std.specs.Prelude.{◌≡◌, ◌+◌, ◌*◌, ◌≤◌};
 ghost use Rattle.algebra.specs.Prelude.{false};
-ghost use Rattle.align_residual.specs.Magnitudes.{four_most, pair_most};
-ghost use Rattle.align_residual.specs.Local.{row_sum, square_sum, beside_sum, Compared};
+ghost use Rattle.align_residual.specs.Magnitudes.{pair_most};
+ghost use Rattle.align_residual.specs.Local.{row_sum, square_sum, Compared};
 
-use crate::sixteen::{beside, wide};
-
-// Four samples of a row, eight apart.
-fn four(tile: &[u16], window: &[u16], a: usize, b: usize) -> u16
-    requires { Compared tile.now window.now (a + 25) (b + 25) }
-    ensures { (result ≡ beside_sum tile.now window.now a b + beside_sum tile.now window.now (a + 16) (b + 16)) × (result ≤ four_most) }
-{
-    let left = beside(tile, window, a, b);
-    let right = beside(tile, window, a + 16, b + 16);
-    left + right
-}
+use crate::sixteen::absolute_pair;
 
 // A row of the tile from `a` on against the window's from `b` on.
 pub fn absolute_row(tile: &[u16], window: &[u16], a: usize, b: usize) -> u32
     requires { Compared tile.now window.now (a + 32) (b + 32) }
     ensures { (result ≡ row_sum false tile.now window.now a b 32) × (result ≤ pair_most) }
 {
-    let mut sum: u32 = 0;
-    for j in 0..8 {
-        sum += wide(four(tile, window, a + j, b + j));
-    }
-    sum
+    absolute_pair::<16>(tile, window, a, b)
 }
 
 // A whole tile against the window from `start` on, whose rows stand `stride` apart.

@@ -1,1 +1,2 @@
 pub mod PairRows
+pub mod SquaredRows

@@ -28,6 +28,14 @@ pub struct Found {
     pub rows: u64,
 }
 
+// The vectors that a tile's guess is chosen from.
+#[derive(Clone, Copy)]
+pub struct Candidates {
+    pub own: Vector,
+    pub sideways: Vector,
+    pub vertically: Vector,
+}
+
 // The sum of two vectors.
 fn sum(a: Vector, b: Vector) -> Vector
     requires { (Within (2 ^ 20) a) × (Within (2 ^ 20) b) }
@@ -80,26 +88,19 @@ pub fn candidate_sum(
 }
 
 // The candidate of the least residual, the earlier on a tie.
-fn guess(
-    own: Vector,
-    sideways: Vector,
-    vertically: Vector,
-    first: u64,
-    second: u64,
-    third: u64,
-) -> Vector
-    ensures { result ≡ least_of_three own sideways vertically first second third }
+fn guess(candidates: Candidates, first: u64, second: u64, third: u64) -> Vector
+    ensures { result ≡ least_of_three candidates.own candidates.sideways candidates.vertically first second third }
 {
     if second < first {
         if third < second {
-            return vertically;
+            return candidates.vertically;
         }
-        return sideways;
+        return candidates.sideways;
     }
     if third < first {
-        return vertically;
+        return candidates.vertically;
     }
-    own
+    candidates.own
 }
 
 // The window around a guess, 4 samples further than the tile each way.
@@ -154,7 +155,7 @@ fn moved(guess: Vector, best: Best, before: u64) -> Found
 {
     let vector = sum(guess, offset(best.offset));
     Found {
-        vector: vector,
+        vector,
         residual: best.residual,
         rows: before + best.rows,
     }
@@ -188,14 +189,13 @@ pub fn refine_candidates(
     window: &mut [u16],
     other: &mut [u16],
     squared: bool,
-    own: Vector,
-    sideways: Vector,
-    vertically: Vector,
+    candidates: Candidates,
 ) -> Found
-    requires { CandidatesReady words.now area tile samples.now window.old other.old squared own sideways vertically }
-    ensures { (result ≡ refined squared words.now area tile (guessed_in words.now area tile own sideways vertically) (3 * tile.side)) × (result.residual ≤ residual_most) }
+    requires { CandidatesReady words.now area tile samples.now window.old other.old squared candidates.own candidates.sideways candidates.vertically }
+    ensures { (result ≡ refined squared words.now area tile (guessed_in words.now area tile candidates.own candidates.sideways candidates.vertically) (3 * tile.side)) × (result.residual ≤ residual_most) }
 {
     let side = tile.side;
+    let own = candidates.own;
     copy_window(words, area, tile, own, &mut *window);
     let first = middle_sum(side, samples, &*window);
     let second = other_sum(
@@ -204,7 +204,7 @@ pub fn refine_candidates(
         tile,
         samples,
         &mut *other,
-        sideways,
+        candidates.sideways,
         own,
         first,
     );
@@ -214,11 +214,11 @@ pub fn refine_candidates(
         tile,
         samples,
         &mut *other,
-        vertically,
+        candidates.vertically,
         own,
         first,
     );
-    let best = guess(own, sideways, vertically, first, second, third);
+    let best = guess(candidates, first, second, third);
     let rows = 3 * side as u64;
     if same(best, own) {
         return moved(own, search(squared, side, samples, &*window), rows);

@@ -5,6 +5,7 @@ ghost use Rattle.stacker.specs.Bands.{Banded};
 ghost use Rattle.c_types.specs.Parameters.{shape_of, measured, iso_noise, tuned};
 
 use c_types::{Burst, BurstNoise, IsoNoise, MergeTuning, at_iso, measured, shape_of, tuned};
+use refusals::answer;
 
 // Rows `top` to `top + rows` - 1 of the merged frame, with the burst's own curve.
 #[unsafe(no_mangle)]
@@ -21,7 +22,7 @@ pub extern "C" fn stacker_merge_band(
 ) -> u64
     ensures { Banded (shape_of burst tuning.side) burst.reference (measured noise) (tuned burst tuning) top rows samples.now vectors.now output.old output.new work.old work.new result }
 {
-    stacker::band::merge_band(
+    answer(stacker::band::merge_band(
         shape_of(burst, tuning.side),
         burst.reference as usize,
         measured(noise),
@@ -32,7 +33,7 @@ pub extern "C" fn stacker_merge_band(
         vectors,
         &mut *output,
         &mut *work,
-    )
+    ))
 }
 
 // The same with the curve for ISO 100.
@@ -50,7 +51,7 @@ pub extern "C" fn stacker_merge_band_iso(
 ) -> u64
     ensures { Banded (shape_of burst tuning.side) burst.reference (iso_noise noise) (tuned burst tuning) top rows samples.now vectors.now output.old output.new work.old work.new result }
 {
-    stacker::band::merge_band(
+    answer(stacker::band::merge_band(
         shape_of(burst, tuning.side),
         burst.reference as usize,
         at_iso(noise),
@@ -61,7 +62,7 @@ pub extern "C" fn stacker_merge_band_iso(
         vectors,
         &mut *output,
         &mut *work,
-    )
+    ))
 }
 
 // The length of a band's work area, or 0 where refusal 1, 2, 22 or 23 would stand. Of the tuning only the side is read.

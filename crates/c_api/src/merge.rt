@@ -3,6 +3,7 @@ ghost use Rattle.stacker.specs.Calls.{Merged};
 ghost use Rattle.c_types.specs.Parameters.{shape_of, measured, iso_noise, tuned};
 
 use c_types::{Burst, BurstNoise, IsoNoise, MergeTuning, at_iso, measured, shape_of, tuned};
+use refusals::answer;
 
 // A burst and lent vectors to the output, with the burst's own curve.
 #[unsafe(no_mangle)]
@@ -17,7 +18,7 @@ pub extern "C" fn stacker_merge(
 ) -> u64
     ensures { Merged (shape_of burst tuning.side) burst.reference (measured noise) (tuned burst tuning) samples.now vectors.now output.old output.new work.old work.new result }
 {
-    stacker::merge::merge(
+    answer(stacker::merge::merge(
         shape_of(burst, tuning.side),
         burst.reference as usize,
         measured(noise),
@@ -26,7 +27,7 @@ pub extern "C" fn stacker_merge(
         vectors,
         &mut *output,
         &mut *work,
-    )
+    ))
 }
 
 // The same with the curve for ISO 100.
@@ -42,7 +43,7 @@ pub extern "C" fn stacker_merge_iso(
 ) -> u64
     ensures { Merged (shape_of burst tuning.side) burst.reference (iso_noise noise) (tuned burst tuning) samples.now vectors.now output.old output.new work.old work.new result }
 {
-    stacker::merge::merge(
+    answer(stacker::merge::merge(
         shape_of(burst, tuning.side),
         burst.reference as usize,
         at_iso(noise),
@@ -51,5 +52,5 @@ pub extern "C" fn stacker_merge_iso(
         vectors,
         &mut *output,
         &mut *work,
-    )
+    ))
 }

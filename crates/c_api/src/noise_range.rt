@@ -3,6 +3,7 @@ ghost use Rattle.stacker.specs.Ranged.{Ranged};
 ghost use Rattle.c_types.specs.Parameters.{shape_of, measured, iso_noise, tuned};
 
 use c_types::{Burst, BurstNoise, IsoNoise, MergeTuning, at_iso, measured, shape_of, tuned};
+use refusals::answer;
 
 // A burst and lent vectors to both frames, between two curves of the burst's own.
 #[unsafe(no_mangle)]
@@ -19,7 +20,7 @@ pub extern "C" fn stacker_range(
 ) -> u64
     ensures { Ranged (shape_of burst tuning.side) burst.reference (measured lower) (measured upper) (tuned burst tuning) samples.now vectors.now low.old low.new high.old high.new work.old work.new result }
 {
-    stacker::noise_range::range(
+    answer(stacker::noise_range::range(
         shape_of(burst, tuning.side),
         burst.reference as usize,
         measured(lower),
@@ -30,7 +31,7 @@ pub extern "C" fn stacker_range(
         &mut *low,
         &mut *high,
         &mut *work,
-    )
+    ))
 }
 
 // The same with the curves for ISO 100.
@@ -48,7 +49,7 @@ pub extern "C" fn stacker_range_iso(
 ) -> u64
     ensures { Ranged (shape_of burst tuning.side) burst.reference (iso_noise lower) (iso_noise upper) (tuned burst tuning) samples.now vectors.now low.old low.new high.old high.new work.old work.new result }
 {
-    stacker::noise_range::range(
+    answer(stacker::noise_range::range(
         shape_of(burst, tuning.side),
         burst.reference as usize,
         at_iso(lower),
@@ -59,5 +60,5 @@ pub extern "C" fn stacker_range_iso(
         &mut *low,
         &mut *high,
         &mut *work,
-    )
+    ))
 }

@@ -3,6 +3,7 @@ ghost use Rattle.stacker.specs.Residuals.{ResidualsFound};
 ghost use Rattle.c_types.specs.Parameters.{shape_of};
 
 use c_types::{Burst, MergeTuning, shape_of};
+use refusals::answer;
 
 // A burst and lent vectors to the residuals. Of the tuning only the side is read.
 #[unsafe(no_mangle)]
@@ -16,12 +17,12 @@ pub extern "C" fn stacker_residuals(
 ) -> u64
     ensures { ResidualsFound (shape_of burst tuning.side) burst.reference samples.now vectors.now residuals.old residuals.new work.old work.new result }
 {
-    stacker::residuals::residuals(
+    answer(stacker::residuals::residuals(
         shape_of(burst, tuning.side),
         burst.reference as usize,
         samples,
         vectors,
         &mut *residuals,
         &mut *work,
-    )
+    ))
 }

@@ -1,8 +1,11 @@
 -- The reading of a file by the numbers that the code found for its parts.
 use Rattle.std.specs.Prelude.{◌≡◌, ◌*◌}
-use Rattle.file_burst.specs.Prelude.{sym, ap, ◌∙◌, false, List, [], ℕ, Shape, sample_length, Allowed, Part, refused, found, number_of, ◌then◌, mapped, above, next_values, Header, header_refusal, head_of}
+use Rattle.file_burst.specs.Prelude.{arith, sym, ap, ◌∙◌, false, List, [], ℕ, Shape, sample_length, Allowed, Part, refused, found, number_of, ◌then◌, mapped, above, next_values, Header, header_refusal, head_of}
 use native.Mathlib.Nat.{mul_assoc, mul_comm}
 use Rattle.refusals.specs.TestLaws.{among, passed}
+use Rattle.refusals.specs.declared.Refusal.{Refusal}
+use Rattle.refusals.specs.Refused as code
+use Rattle.refusals.specs.RefusedLaws.{some-number}
 use Rattle.admit_length.specs.Order.{shape_tests}
 use Rattle.file_burst.specs.Lines.PartLaws.{both-sound, sound-at, sound-found, unless-stops, unless-goes, number-mapped, number-stops}
 use Rattle.file_burst.specs.Lines.ScanLaws.{Next, next-all}
@@ -12,6 +15,9 @@ use Rattle.file_burst.specs.Rows.{row_lines, frames_of}
 use Rattle.file_burst.specs.RowLaws.{SmallRows, rows-sound, ended-sound}
 use Rattle.file_burst.specs.Reading.{body_of, reading}
 use Rattle.file_burst.proofs.Next.{rows_next}
+
+pub not-zero : (refusal : Refusal) → code.refusal_number refusal ≡ 0 → ⊥
+not-zero refusal z = let some = some-number refusal in absurd (omega (arith, z, some))
 
 -- an accepted head's shape is allowed
 pub head-allowed : (file : List ℕ) (header : Header) (rest : List ℕ) → found header rest ≡ head_of file → Allowed header.shape

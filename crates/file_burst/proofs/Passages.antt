@@ -1,20 +1,19 @@
 -- Rows one by one, as far as a check sees them: where they end, or the first refusal.
 use Rattle.std.specs.Prelude.{◌≡◌, ◌∷◌, ◌++◌, ◌-◌, ◌<◌, ◌≤◌}
-use Rattle.file_burst.specs.Prelude.{refl, Bool, true, false, List, [], ℕ, zero, suc, arith, Part, refused, found, number_of, ◌then◌, mapped, value_line, above, judged}
+use Rattle.file_burst.specs.Prelude.{refl, Bool, true, false, List, [], ℕ, zero, suc, arith, refuse, Part, refused, found, number_of, ◌then◌, mapped, value_line, above, judged}
 use native.Mathlib.Numerals.{sub-one}
+use Rattle.std.specs.Prelude.{ltb}
+use Rattle.std.proofs.Math.Decide.{dec_lt}
+use Rattle.std.proofs.Common.{lt-ltb, le-ltb}
 use lib.ListN.{length, drop, drop_of_length-le}
 use Rattle.refusals.specs.Numbers as no
 use Rattle.file_burst.specs.Lines.ScanLaws.{step}
 use Rattle.file_burst.specs.Rows.{unless_above, row, row_lines, ended}
-use Rattle.file_burst.specs.Passage.{rows_in, ended_row, briefly}
+use Rattle.file_burst.specs.Passage.{briefly}
 
 -- what the judgement of a line makes of a row
 abbrev pub decided : Part Bool → Part Unit
 decided line = line then (λ over rest. unless_above over tt rest)
-
-pub row-end : (file : List ℕ) (next : ℕ) (over : Bool) → rows_in file (ended_row next over) ≡ decided (found over (drop next file))
-row-end file next true = refl
-row-end file next false = refl
 
 pub row-decided : (width : ℕ) (s : List ℕ) → decided (judged false 4095 (value_line width s)) ≡ briefly (row width s)
 unfolding row
@@ -54,8 +53,9 @@ ended-briefly (found a []) = refl
 ended-briefly (found a (byte ∷ rest)) = refl
 
 module _ {A : Type 0} (a : A) (s : List ℕ) (i : ℕ) where
-  pub trailing : i < length s → no.file_end ≡ number_of (ended (found a (drop i s)))
-  trailing h = rw (step s i h)
-
-  pub at-end : length s ≤ i → 0 ≡ number_of (ended (found a (drop i s)))
-  at-end h = rw (drop_of_length-le s h)
+  pub file-end : refuse no.file_end (ltb i (length s)) ≡ number_of (ended (found a (drop i s)))
+  file-end = from (dec_lt i (length s))
+    where
+      from : Dec (i < length s) → refuse no.file_end (ltb i (length s)) ≡ number_of (ended (found a (drop i s)))
+      from (yes h) = rw (lt-ltb i (length s) h, step s i h)
+      from (no h) = let all : length s ≤ i = omega arith in rw (le-ltb i (length s) all, drop_of_length-le s all)

@@ -10,3 +10,4 @@ pub mod Passage
 pub mod RowLaws
 pub mod Size
 pub mod SizeLaws
+pub mod Code

@@ -14,5 +14,4 @@ unfoldable pub use Rattle.file_burst.specs.Lines.Scan.{next_values}
 pub use Rattle.file_burst.specs.Head.Head.{head_in, head_of}
 unfoldable pub use Rattle.file_burst.specs.Head.Head.{header_refusal}
 pub use Rattle.file_burst.specs.declared.head.Head.{Head}
-pub use Rattle.file_burst.specs.declared.head.Head.TheVariants.{Found, Refused}
 pub use Rattle.file_burst.specs.declared.head.Header.{Header}

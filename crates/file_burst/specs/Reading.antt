@@ -1,7 +1,9 @@
 -- Reading a whole file.
-use Rattle.std.specs.Prelude.{◌≡◌}
+use Rattle.std.specs.Prelude.{Result, Ok, Err, ◌≡◌}
 use Rattle.file_burst.specs.Prelude.{List, ℕ, length, Shape, sample_length, length_refusal, Part, refused, found, unless, number_of, ◌then◌, mapped, head_of, Header}
 use Rattle.refusals.specs.Numbers as no
+use Rattle.refusals.specs.declared.Refusal.{Refusal}
+use Rattle.refusals.specs.Refused.{refusal_number}
 use Rattle.file_burst.specs.Burst.{FileBurst}
 use Rattle.file_burst.specs.Rows.{frames_of}
 use Rattle.file_burst.specs.declared.FileAnswer.{FileAnswer}

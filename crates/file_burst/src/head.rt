@@ -1,12 +1,15 @@
 // The first two lines of a burst file: the names, and the seven values with their tests.
 ghost use Rattle.std.specs.Prelude.{◌≡◌};
+ghost use Rattle.refusals.specs.Refused.{answer_of};
 ghost use Rattle.file_burst.specs.Head.Prelude.{drop, next_values};
-ghost use Rattle.file_burst.specs.Head.Head.{starts_with, first_line_refusal, header_of, header_refusal, head_of, head_in};
+ghost use Rattle.file_burst.specs.Head.Head.{first_line_refusal, header_of, header_refusal, head_of, head_in};
 
-use crate::lines::{Line, check_line, has_lf, value_at};
-use admit_size::{count_refusal, reference_refusal, size_refusal};
+use crate::lines::{check_line, has_lf, value_at};
+use admit_length::order::shape_refusal;
+use admit_size::reference_refusal;
 use geometry::Shape;
 use noise::{level_refusal, strength_refusal};
+use refusals::{Refusal, refuse};
 
 // The seven values of a file's second line.
 #[derive(Clone, Copy)]
@@ -18,41 +21,20 @@ pub struct Header {
     pub strength: u64,
 }
 
-// The first two lines: their values and the position past them, or the first refusal.
+// The first two lines: their values, and the position past them.
 #[derive(Clone, Copy)]
-pub enum Head {
-    Found { header: Header, next: usize },
-    Refused { number: u64 },
-}
-
-// The file begins with the text.
-fn starts_with(file: &[u8], text: &[u8]) -> bool
-    ensures { result ≡ starts_with text.now file.now }
-{
-    let mut i = 0;
-    while i < text.len() {
-        if file.len() <= i {
-            return false;
-        }
-        if file[i] != text[i] {
-            return false;
-        }
-        i += 1;
-    }
-    true
+pub struct Head {
+    pub header: Header,
+    pub next: usize,
 }
 
 // Refusals 15 and 13 of the first line.
-fn first_line_refusal(file: &[u8]) -> u64
-    ensures { result ≡ first_line_refusal file.now }
+fn first_line_refusal(file: &[u8]) -> Result<(), Refusal>
+    ensures { answer_of result ≡ first_line_refusal file.now }
 {
-    if !has_lf(file, 0) {
-        return refusals::FILE_END;
-    }
-    if !starts_with(file, b"width height count reference shot read strength\n") {
-        return refusals::FIRST_LINE;
-    }
-    0
+    refuse(Refusal::FileEnd, !has_lf(file, 0))?;
+    let named = file.starts_with(b"width height count reference shot read strength\n");
+    refuse(Refusal::FirstLine, !named)
 }
 
 // The seven values from a position on, where they are known to stand.
@@ -76,36 +58,26 @@ fn header_at(file: &[u8], at: usize) -> Header
 }
 
 // Refusals 1, 2, 3, 9 and 10 of the seven values.
-fn header_refusal(header: Header) -> u64
-    ensures { result ≡ header_refusal header }
+#[tactic(auto, using(refusals::specs::RefusedLaws::refuses, refusals::specs::RefusedLaws::stopped, refusals::specs::RefusedLaws::continued), unfolding(refusals::specs::Tests::first, crate::specs::Head::Head::header_refusal))]
+fn header_refusal(header: Header) -> Result<(), Refusal>
+    ensures { answer_of result ≡ header_refusal header }
 {
-    let shape = header.shape;
-    refusals::first(&[
-        size_refusal(shape),
-        count_refusal(shape),
-        reference_refusal(shape, header.reference),
-        level_refusal(header.shot, header.read),
-        strength_refusal(header.strength),
-    ])
+    shape_refusal(header.shape)?;
+    reference_refusal(header.shape, header.reference)?;
+    level_refusal(header.shot, header.read)?;
+    strength_refusal(header.strength)
 }
 
 // The names, the seven values and their tests. Line 2 starts at byte 48.
-pub fn read_head(file: &[u8]) -> Head
+pub fn read_head(file: &[u8]) -> Result<Head, Refusal>
     ensures { head_in file.now result ≡ head_of file.now }
 {
-    let first = first_line_refusal(file);
-    if first != 0 {
-        return Head::Refused { number: first };
-    }
-    match check_line(file, 48, 7, 0) {
-        Line::Refused { number } => Head::Refused { number },
-        Line::Found { next, over: _ } => {
-            let header = header_at(file, 48);
-            let refusal = header_refusal(header);
-            if refusal != 0 {
-                return Head::Refused { number: refusal };
-            }
-            Head::Found { header, next }
-        }
-    }
+    first_line_refusal(file)?;
+    let line = check_line(file, 48, 7, 0)?;
+    let header = header_at(file, 48);
+    header_refusal(header)?;
+    Ok(Head {
+        header,
+        next: line.next,
+    })
 }

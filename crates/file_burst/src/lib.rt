@@ -6,10 +6,11 @@ pub mod head;
 mod lines;
 mod rows;
 
-pub use file::{check_file, file_size, read_file};
+pub use file::{check, check_file, file_size, read_file};
 
 // What reading a file, or its first two lines, answers: the number of the refusal with every other field 0, or 0 with the file's seven values.
 // The levels are Ls and Lr, 1024 times a curve's shot and read.
+// A number and not an error, since C gets it by value.
 #[repr(C)]
 #[derive(Clone, Copy)]
 pub struct FileAnswer {
@@ -21,11 +22,4 @@ pub struct FileAnswer {
     pub shot_level: u64,
     pub read_level: u64,
     pub strength: u64,
-}
-
-// Rows of samples: the position past them, or the first refusal.
-#[derive(Clone, Copy)]
-enum Passage {
-    Found { next: usize },
-    Refused { number: u64 },
 }

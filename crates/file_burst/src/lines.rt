@@ -5,16 +5,6 @@ mod scanning;
 pub use crate::lines::lines::check_line;
 pub use crate::lines::scanning::{has_lf, value_at};
 
-// What stands at a position: a value and the position past what ends it, or nothing well formed.
-#[derive(Clone, Copy)]
-enum Scan {
-    // The line's LF follows the value.
-    Last { value: u64, next: usize },
-    // Spaces follow the value.
-    More { value: u64, next: usize },
-    Bad,
-}
-
 // A value and the position past what ends it.
 #[derive(Clone, Copy)]
 pub struct Value {
@@ -22,9 +12,18 @@ pub struct Value {
     pub next: usize,
 }
 
-// A line of values: the position past its LF and whether a value is above a bound, or its refusal.
+// A value by what ends it.
 #[derive(Clone, Copy)]
-pub enum Line {
-    Found { next: usize, over: bool },
-    Refused { number: u64 },
+enum Scan {
+    // The line's LF follows the value.
+    Last(Value),
+    // Spaces follow the value.
+    More(Value),
+}
+
+// A line of values: the position past its LF, and whether a value is above a bound.
+#[derive(Clone, Copy)]
+pub struct Line {
+    pub next: usize,
+    pub over: bool,
 }

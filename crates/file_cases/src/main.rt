@@ -28,6 +28,7 @@ fn print_case(rt: &impl Print, name: &str, file: &[u8]) -> io::Result<()> {
 }
 
 // Reads until the buffer is full, the input ends or a read fails, and returns how many bytes lie at the start of the buffer.
+// Unlike with `file_input::read_all`, what came before a read that fails counts.
 fn read_full<R: Read>(reader: &mut R, buffer: &mut [u8]) -> usize
     ensures { result ≤ length buffer.new }
 {

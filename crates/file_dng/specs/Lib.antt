@@ -11,3 +11,4 @@ pub mod ReadingLaws
 pub mod PlaceLaws
 pub mod PassingLaws
 pub mod SizeLaws
+pub mod Code

@@ -1,8 +1,11 @@
 -- Reading one frame of a burst from a DNG file.
-use Rattle.std.specs.Prelude.{◌≡◌, ◌∷◌, ◌+◌, ◌*◌}
+use Rattle.std.specs.Prelude.{Result, Ok, Err, ◌≡◌, ◌∷◌, ◌+◌, ◌*◌}
 use Rattle.file_dng.specs.Prelude.{cond, List, [], ℕ, length, pos, Float, binary64, of_bits, of_int, after, Shape, Entry, entries, first_field, NoiseProfile, BlackLevel, tag_at, has_black, strip_start, filled_rows}
 use Rattle.file_dng.specs.Tiff.Bytes.{short, eight}
+use Rattle.refusals.specs.declared.Refusal.{Refusal}
+use Rattle.refusals.specs.Refused.{refusal_number}
 use Rattle.file_dng.specs.declared.DngRead.{DngRead}
+use Rattle.file_dng.specs.declared.reading.Values.{Values}
 use Rattle.file_dng.specs.Curve.{shot_of, read_of}
 use Rattle.file_dng.specs.Refusals.{dng_refusal}
 

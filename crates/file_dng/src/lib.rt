@@ -11,6 +11,7 @@ pub use reading::read_dng;
 
 // What reading a file answers: the number of the refusal with every other field 0, or 0 with the file's curve and its black levels, in the
 // pattern's order.
+// A number and not an error, since C gets it by value.
 #[repr(C)]
 #[derive(Clone, Copy)]
 pub struct DngRead {

@@ -1,8 +1,10 @@
 // The reading of one frame.
 ghost use Rattle.std.specs.Prelude.{◌≡◌, ◌≤◌};
 ghost use Rattle.file_dng.specs.Prelude.{first, entries};
+ghost use Rattle.refusals.specs.Refused.{answer_of};
 ghost use Rattle.file_dng.specs.Refusals.{room_tests};
-ghost use Rattle.file_dng.specs.Reading.{refused_dng, accepted_dng, black_at, FrameRead};
+ghost use Rattle.file_dng.specs.Reading.{black_at, FrameRead};
+ghost use Rattle.file_dng.specs.Code.{values_in, answered};
 
 use crate::DngRead;
 use crate::curve::{read_of, shot_of};
@@ -13,28 +15,45 @@ use crate::tiff::fields::field;
 use admit_length::lengths::{length_refusal, output_length, sample_length};
 use admit_length::order::frame_refusal;
 use geometry::Shape;
-use refusals::SAMPLE_LENGTH;
+use refusals::Refusal;
 
 // Tests 1, 2, 3, 23 and 4.
-fn room_refusal(shape: Shape, frame: usize, room: usize) -> u64
-    ensures { result ≡ first (room_tests shape frame room) }
+#[tactic(auto, using(refusals::specs::RefusedLaws::stopped, refusals::specs::RefusedLaws::continued, refusals::specs::TestLaws::lone), unfolding(crate::specs::Refusals::room_tests))]
+fn room_refusal(shape: Shape, frame: usize, room: usize) -> Result<(), Refusal>
+    ensures { answer_of result ≡ first (room_tests shape frame room) }
 {
-    let framed = frame_refusal(shape, frame);
-    if framed != 0 {
-        return framed;
-    }
-    length_refusal(SAMPLE_LENGTH, sample_length(shape), room)
+    frame_refusal(shape, frame)?;
+    length_refusal(Refusal::SampleLength, sample_length(shape), room)
 }
 
-// A refusal, with 0 in every other field.
-fn refused(number: u64) -> DngRead
-    ensures { result ≡ refused_dng number }
+// What a file gives beside its samples: the curve and the black levels, in the pattern's order.
+#[derive(Clone, Copy)]
+struct Values {
+    shot: f64,
+    read: f64,
+    black: [u16; 4],
+}
+
+// What C is answered.
+fn answer(read: Result<Values, Refusal>) -> DngRead
+    ensures { result ≡ answered read }
 {
-    DngRead {
-        refusal: number,
-        shot: 0.0,
-        read: 0.0,
-        black: [0, 0, 0, 0],
+    match read {
+        Ok(values) => {
+            let black = values.black;
+            DngRead {
+                refusal: 0,
+                shot: values.shot,
+                read: values.read,
+                black,
+            }
+        }
+        Err(refusal) => DngRead {
+            refusal: refusal.number(),
+            shot: 0.0,
+            read: 0.0,
+            black: [0, 0, 0, 0],
+        },
     }
 }
 
@@ -51,8 +70,8 @@ fn black_at(file: &[u8], index: usize) -> u16
 }
 
 // The curve and the black levels, untested.
-fn accepted(file: &[u8]) -> DngRead
-    ensures { result ≡ accepted_dng file.now (entries file.now) }
+fn values_of(file: &[u8]) -> Values
+    ensures { result ≡ values_in file.now (entries file.now) }
 {
     let profile = field(file, tag(NOISE_PROFILE));
     let shot = shot_of(eight_at(file, profile.at));
@@ -61,32 +80,29 @@ fn accepted(file: &[u8]) -> DngRead
     let black1 = black_at(file, 1);
     let black2 = black_at(file, 2);
     let black3 = black_at(file, 3);
-    DngRead {
-        refusal: 0,
+    Values {
         shot,
         read,
         black: [black0, black1, black2, black3],
     }
 }
 
-// Reads the file into one frame of the lent samples. Nothing is stored before every test has passed.
+// Nothing is stored before every test has passed.
+fn read(file: &[u8], shape: Shape, frame: usize, samples: &mut [u16]) -> Result<Values, Refusal>
+    ensures { FrameRead file.now shape frame samples.old (answered result) samples.new }
+{
+    tag_refusal(file, shape)?;
+    room_refusal(shape, frame, samples.len())?;
+    let start = strip_start(file);
+    let area = output_length(shape);
+    strip_refusal(file, start, area)?;
+    fill(file, start, shape, frame, samples);
+    Ok(values_of(file))
+}
+
+// Reads the file into one frame of the lent samples.
 pub fn read_dng(file: &[u8], shape: Shape, frame: usize, samples: &mut [u16]) -> DngRead
     ensures { FrameRead file.now shape frame samples.old result samples.new }
 {
-    let tagged = tag_refusal(file, shape);
-    if tagged != 0 {
-        return refused(tagged);
-    }
-    let framed = room_refusal(shape, frame, samples.len());
-    if framed != 0 {
-        return refused(framed);
-    }
-    let start = strip_start(file);
-    let area = output_length(shape);
-    let filled = strip_refusal(file, start, area);
-    if filled != 0 {
-        return refused(filled);
-    }
-    fill(file, start, shape, frame, samples);
-    accepted(file)
+    answer(read(file, shape, frame, samples))
 }

@@ -1,6 +1,7 @@
 // The samples of a DNG file's strip: refusal 11, and their storing.
 ghost use Rattle.std.specs.Prelude.{◌≡◌, ◌+◌, ◌*◌, ◌%◌, ◌≤◌};
 ghost use Rattle.algebra.specs.Prelude.{ltb, length};
+ghost use Rattle.refusals.specs.Refused.{answer_of};
 ghost use Rattle.refusals.specs.Some.{some};
 ghost use Rattle.sequences.specs.Written.{written};
 ghost use Rattle.file_dng.specs.Strip.Strip.{strip_sample, strip_refusal, filled_rows};
@@ -8,7 +9,7 @@ ghost use Rattle.file_dng.specs.Strip.Fits.{FrameFits};
 
 use geometry::read::sample_index;
 use geometry::{SAMPLE_MOST, Shape};
-use refusals::SAMPLE_VALUE;
+use refusals::Refusal;
 
 // The bits that 64 samples have, the first at a place: above 4095 where a sample is. No branch, so that the loop becomes vector instructions.
 fn word_bits(file: &[u8], from: usize) -> u16
@@ -19,24 +20,22 @@ fn word_bits(file: &[u8], from: usize) -> u16
     for k in 0..64 {
         let low = file[from + 2 * k] as u16;
         let high = file[from + 2 * k + 1] as u16;
-        seen = seen | (low + 256 * high);
+        seen |= low + 256 * high;
     }
     seen
 }
 
 // Refusal 11.
-pub fn strip_refusal(file: &[u8], start: usize, count: usize) -> u64
+pub fn strip_refusal(file: &[u8], start: usize, count: usize) -> Result<(), Refusal>
     requires { (start + 2 * count ≤ length file.now) × (count % 64 ≡ 0) }
-    ensures { result ≡ strip_refusal file.now start count }
+    ensures { answer_of result ≡ strip_refusal file.now start count }
 {
-    let mut i = 0;
-    while i < count {
+    for i in (0..count).step_by(64) {
         if word_bits(file, start + 2 * i) > SAMPLE_MOST {
-            return SAMPLE_VALUE;
+            return Err(Refusal::SampleValue);
         }
-        i += 64;
     }
-    0
+    Ok(())
 }
 
 // A row of the strip, from its place `first` on, into the lent samples from `at` on.
@@ -45,12 +44,10 @@ fn fill_row(file: &[u8], start: usize, first: usize, samples: &mut [u16], at: us
     requires width_in_bounds_2 { at + width ≤ length samples.old }
     ensures { samples.new ≡ written samples.old at (λ column. strip_sample file.now start (first + column)) width }
 {
-    let mut i = 0;
-    while i < width {
+    for i in 0..width {
         let low = file[start + 2 * (first + i)] as u16;
         let high = file[start + 2 * (first + i) + 1] as u16;
         samples[at + i] = low + 256 * high;
-        i += 1;
     }
 }
 
@@ -60,10 +57,15 @@ pub fn fill(file: &[u8], start: usize, shape: Shape, frame: usize, samples: &mut
     requires frame_fits { FrameFits shape frame (length samples.old) }
     ensures { samples.new ≡ filled_rows file.now start shape frame shape.height samples.old }
 {
-    let mut row = 0;
-    while row < shape.height {
+    for row in 0..shape.height {
         let at = sample_index(shape, frame, row, 0);
-        fill_row(file, start, row * shape.width, samples, at, shape.width);
-        row += 1;
+        fill_row(
+            file,
+            start,
+            row * shape.width,
+            &mut *samples,
+            at,
+            shape.width,
+        );
     }
 }

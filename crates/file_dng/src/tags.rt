@@ -9,6 +9,7 @@ pub use crate::tags::tags::{BLACK_LEVEL, NOISE_PROFILE, has_black, tag};
 pub use crate::tags::tests::{strip_start, tag_refusal};
 
 // What the question of a file's size answers: the number of the refusal, with the tag at fault or 0; or 0 with the frame's size.
+// A number and not an error, since C gets it by value.
 #[repr(C)]
 #[derive(Clone, Copy)]
 pub struct DngSize {

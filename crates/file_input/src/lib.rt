@@ -1,33 +1,25 @@
 // A reader read to its end, where `Read::read_exact` does not tell how much there was from a read that failed; and why one failed, in words.
 #![tactic(auto)]
 
-ghost use Rattle.file_input.specs.Count.{Within};
+ghost use Rattle.std.specs.Prelude.{◌≤◌, length, IfOk};
 ghost use Rattle.file_input.specs.Reason.{BeforeNumber};
 
 use std::fmt::{Display, Formatter, InlineText, Write};
 use std::io::Read;
 use std::{fmt, io};
 
-// What was read: its number of bytes, or that a read failed, and why.
-#[derive(Clone, Copy)]
-pub enum Input {
-    Read { count: usize },
-    Failed { error: io::Error },
-}
-
-// Reads until the input ends or the buffer is full. Which bytes came, no contract can say.
-pub fn read_all<R: Read>(reader: &mut R, buffer: &mut [u8]) -> Input
-    ensures { Within buffer.new result }
+// Reads until the input ends or the buffer is full: the number of bytes read. Which bytes came, no contract can say.
+pub fn read_all<R: Read>(reader: &mut R, buffer: &mut [u8]) -> io::Result<usize>
+    ensures { IfOk result (λ count. count ≤ length buffer.new) }
 {
     let mut count = 0;
     while count < buffer.len() {
-        match reader.read(&mut buffer[count..]) {
-            Err(error) => return Input::Failed { error },
-            Ok(0) => return Input::Read { count },
-            Ok(more) => count += more,
+        match reader.read(&mut buffer[count..])? {
+            0 => break,
+            more => count += more,
         }
     }
-    Input::Read { count }
+    Ok(count)
 }
 
 // An error in the system's words, without the number that `Display` of `io::Error` writes after them.

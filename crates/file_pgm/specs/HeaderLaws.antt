@@ -1,5 +1,8 @@
 -- The header of bytes: its test, and the size that is read off it.
-use Rattle.file_pgm.specs.Prelude.{sym, ap, ◌∙◌, true, false, not, ℕ, arith, eqb, decimal, pgm_header, leading}
+use Rattle.std.specs.List.{starts_with}
+use Rattle.std.proofs.lemmas.Slice.Eq.{starts_is}
+use Rattle.std.proofs.lemmas.Bool.Decides.{Decides-eqb}
+use Rattle.file_pgm.specs.Prelude.{refl, sym, ap, ◌∙◌, Bool, true, false, not, ℕ, arith, eqb, decimal, pgm_header, leading}
 use Rattle.std.specs.Prelude.{List, [], ◌∷◌, ◌++◌, get_or, take, ◌≡◌, ◌+◌, ◌*◌, ◌≤◌, ◌<◌}
 use Rattle.std.proofs.Common.{append_assoc, take-append-drop, ext_get_or, drop-drop}
 use Rattle.std.proofs.Math.ListN.{length, drop, length-append, length-drop, get_or-append}
@@ -33,6 +36,16 @@ module _ (text : List ℕ) where
   same : (rest : List ℕ) → differs text (text ++ rest) ≡ false
   unfolding differs
   same rest = not-one (length text) _ (λ i h. ap not (eq-eqb _ _ (get_or-append text rest 0 i h)))
+
+-- the library's test of what bytes start with
+pub not-starts : (text bytes : List ℕ) → length text ≤ length bytes → not (starts_with eqb bytes text) ≡ differs text bytes
+unfolding differs
+not-starts text bytes h = from (starts_with eqb bytes text) (differs text bytes) refl (starts_is Decides-eqb bytes text (starts_with eqb bytes text) refl)
+  where
+    from : (r d : Bool) → d ≡ differs text bytes → (r ≡ true → bytes ≡ text ++ drop (length text) bytes) × ((rest : List ℕ) → bytes ≡ text ++ rest → r ≡ true) → not r ≡ d
+    from true d e is = sym (e ∙ ap (differs text) (is.0 refl) ∙ same text (drop (length text) bytes))
+    from false true e is = refl
+    from false false e is = ap not (is.1 (drop (length text) bytes) (starts text bytes h (sym e)))
 
 -- what is known of bytes that the test of their form lets through
 module _ (width height : ℕ) (bytes : List ℕ) (e : formed width height bytes ≡ true) where

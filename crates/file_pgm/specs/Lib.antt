@@ -11,3 +11,4 @@ pub mod FormLaws
 pub mod HeaderLaws
 pub mod Size
 pub mod SizeLaws
+pub mod Code

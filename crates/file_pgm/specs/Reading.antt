@@ -1,9 +1,12 @@
 -- Reading a PGM file into a lent frame, "only in that spelling, with width and height handed back": "reading 17, 6, 11".
-use Rattle.std.specs.Prelude.{◌≡◌, ◌&&◌, ◌∷◌, ◌+◌, ◌*◌}
+use Rattle.std.specs.Prelude.{Result, Ok, Err, ◌≡◌, ◌&&◌, ◌∷◌, ◌+◌, ◌*◌}
 use Rattle.file_pgm.specs.Prelude.{Bool, not, List, [], ℕ, eqb, length, get_or, drop, refuse, first, after, length_refusal, decimal, pgm_header, leading, above_refusal, samples_of}
 use Rattle.refusals.specs.Numbers as no
 use Rattle.refusals.specs.Some.{some}
+use Rattle.refusals.specs.declared.Refusal.{Refusal}
+use Rattle.refusals.specs.Refused.{refusal_number}
 use Rattle.file_pgm.specs.declared.PgmRead.{PgmRead}
+use Rattle.file_pgm.specs.declared.reading.Size.{Size}
 use Rattle.file_pgm.specs.Form.{PgmFile, file_length, sizes_allowed}
 
 -- the only width and the only height that the bytes can be a file of: an allowed size has at most four digits

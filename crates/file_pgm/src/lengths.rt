@@ -7,13 +7,11 @@ use crate::header::header_length;
 use admit_size::size_allowed;
 
 // Both sizes are allowed: refusal 1 would not stand.
+#[tactic(auto, unfolding(crate::specs::Form::sizes_allowed))]
 pub fn sizes_allowed(width: usize, height: usize) -> bool
     ensures { result ≡ sizes_allowed width height }
 {
-    if !size_allowed(width) {
-        return false;
-    }
-    size_allowed(height)
+    size_allowed(width) && size_allowed(height)
 }
 
 // The bytes of the file: the header, and two for each sample.

@@ -12,6 +12,7 @@ pub use reading::{pgm_size, read_pgm};
 pub use writing::write_pgm;
 
 // What reading, or the question of the size, answers: the number of the refusal with every other field 0, or 0 with the frame's size.
+// A number and not an error, since C gets it by value.
 #[repr(C)]
 #[derive(Clone, Copy)]
 pub struct PgmRead {

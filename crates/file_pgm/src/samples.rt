@@ -2,33 +2,32 @@
 ghost use Rattle.std.specs.Prelude.{◌≡◌, ◌+◌, ◌*◌, ◌%◌, ◌≤◌};
 ghost use Rattle.algebra.specs.Prelude.{ltb, length, get_or, drop};
 ghost use Rattle.sequences.specs.Write.{written};
+ghost use Rattle.refusals.specs.Refused.{answer_of};
 ghost use Rattle.refusals.specs.Some.{some};
 ghost use Rattle.printing.specs.Put.{Printed};
 ghost use Rattle.file_pgm.specs.Samples.Samples.{bytes_of, some_above, above_refusal, samples_of};
 ghost use Rattle.file_pgm.specs.Samples.Blocks.{high, words_from, exchanged};
 
 use geometry::SAMPLE_MOST;
-use refusals::SAMPLE_VALUE;
+use refusals::{Refusal, refuse};
 
 // The bits that samples of the frame have: above 4095 where a sample is.
 fn bits(frame: &[u16]) -> u16
     ensures { some_above frame.now ≡ ltb 4095 result }
 {
     let mut seen: u16 = 0;
-    for i in 0..frame.len() {
-        seen = seen | frame[i];
+    for sample in frame {
+        seen |= *sample;
     }
     seen
 }
 
 // Refusal 11 of a frame.
-pub fn frame_refusal(frame: &[u16]) -> u64
-    ensures { result ≡ above_refusal frame.now }
+#[tactic(auto, unfolding(crate::specs::Samples::Samples::above_refusal))]
+pub fn frame_refusal(frame: &[u16]) -> Result<(), Refusal>
+    ensures { answer_of result ≡ above_refusal frame.now }
 {
-    if bits(frame) > SAMPLE_MOST {
-        return SAMPLE_VALUE;
-    }
-    0
+    refuse(Refusal::SampleValue, bits(frame) > SAMPLE_MOST)
 }
 
 // The bits that the high bytes of 64 samples have, the first at a place. All 128 bytes are read and every second counts: only bytes in their order
@@ -39,24 +38,22 @@ fn high_bits(bytes: &[u8], from: usize) -> u8
 {
     let mut seen: u8 = 0;
     for k in 0..128 {
-        seen = seen | bytes[from + k] * (1 - k % 2) as u8;
+        seen |= bytes[from + k] * (1 - k % 2) as u8;
     }
     seen
 }
 
 // Refusal 11 of the `count` samples from a place on, to the end of the bytes.
-pub fn raster_refusal(bytes: &[u8], start: usize, count: usize) -> u64
+pub fn raster_refusal(bytes: &[u8], start: usize, count: usize) -> Result<(), Refusal>
     requires { (length bytes.now ≡ start + 2 * count) × (count % 64 ≡ 0) }
-    ensures { result ≡ above_refusal (samples_of (drop start bytes.now)) }
+    ensures { answer_of result ≡ above_refusal (samples_of (drop start bytes.now)) }
 {
-    let mut i = 0;
-    while i < count {
+    for i in (0..count).step_by(64) {
         if high_bits(bytes, start + 2 * i) > 15 {
-            return SAMPLE_VALUE;
+            return Err(Refusal::SampleValue);
         }
-        i += 64;
     }
-    0
+    Ok(())
 }
 
 // The bytes of a frame, put from a place on.
@@ -64,8 +61,7 @@ pub fn put_frame(bytes: &mut [u8], at: usize, frame: &[u16])
     requires { at + 2 * length frame.now ≤ length bytes.old }
     ensures { Printed bytes.old at (bytes_of frame.now) bytes.new (at + 2 * length frame.now) }
 {
-    for i in 0..frame.len() {
-        let sample = frame[i];
+    for (i, &sample) in frame.iter().enumerate() {
         let high = (sample / 256) as u8;
         let low = (sample % 256) as u8;
         bytes[at + 2 * i] = high;
@@ -103,10 +99,8 @@ pub fn fill(bytes: &[u8], start: usize, frame: &mut [u16])
     requires { (length bytes.now ≡ start + 2 * length frame.old) × (length frame.old % 64 ≡ 0) }
     ensures { frame.new ≡ samples_of (drop start bytes.now) }
 {
-    let mut at = 0;
-    while at < frame.len() {
+    for at in (0..frame.len()).step_by(64) {
         let block = words(bytes, start + 2 * at);
         put_words(&block, &mut *frame, at);
-        at += 64;
     }
 }

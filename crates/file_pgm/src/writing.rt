@@ -1,38 +1,38 @@
 // Writing a frame.
 ghost use Rattle.std.specs.Prelude.{◌≡◌};
+ghost use Rattle.refusals.specs.Refused.{answer_of};
 ghost use Rattle.file_pgm.specs.Writing.{write_refusal, WritesPgm};
 
 use crate::header::put_header;
 use crate::lengths::{file_length, sizes_allowed};
 use crate::samples::{frame_refusal, put_frame};
 use admit_length::lengths::length_refusal;
-use refusals::{BYTE_LENGTH, OUTPUT_LENGTH, SIZE, first};
+use refusals::{Refusal, answer, refuse};
 
 // Tests 1, 6, 16 and 11. The frame's samples are looked at only where its length is right.
-fn write_refusal(width: usize, height: usize, frame: &[u16], bytes: &[u8]) -> u64
-    ensures { result ≡ write_refusal width height frame.now bytes.now }
+#[tactic(auto, using(refusals::specs::RefusedLaws::refuses), unfolding(refusals::specs::Tests::first, crate::specs::Writing::write_refusal))]
+fn write_refusal(width: usize, height: usize, frame: &[u16], bytes: &[u8]) -> Result<(), Refusal>
+    ensures { answer_of result ≡ write_refusal width height frame.now bytes.now }
 {
-    if !sizes_allowed(width, height) {
-        return SIZE;
-    }
-    let lent = length_refusal(OUTPUT_LENGTH, width * height, frame.len());
-    let room = length_refusal(BYTE_LENGTH, file_length(width, height), bytes.len());
-    let lengths = first(&[lent, room]);
-    if lengths != 0 {
-        return lengths;
-    }
+    refuse(Refusal::Size, !sizes_allowed(width, height))?;
+    length_refusal(Refusal::OutputLength, width * height, frame.len())?;
+    length_refusal(Refusal::ByteLength, file_length(width, height), bytes.len())?;
     frame_refusal(frame)
 }
 
-// Writes the file of a frame over all of the bytes. Nothing is stored before every test has passed.
+// Nothing is stored before every test has passed.
+fn write(width: usize, height: usize, frame: &[u16], bytes: &mut [u8]) -> Result<(), Refusal>
+    ensures { WritesPgm width height frame.now bytes.old bytes.new (answer_of result) }
+{
+    write_refusal(width, height, frame, &*bytes)?;
+    let start = put_header(&mut *bytes, width, height);
+    put_frame(bytes, start, frame);
+    Ok(())
+}
+
+// Writes the file of a frame over all of the bytes.
 pub fn write_pgm(width: u64, height: u64, frame: &[u16], bytes: &mut [u8]) -> u64
     ensures { WritesPgm width height frame.now bytes.old bytes.new result }
 {
-    let refusal = write_refusal(width as usize, height as usize, frame, &*bytes);
-    if refusal != 0 {
-        return refusal;
-    }
-    let start = put_header(&mut *bytes, width as usize, height as usize);
-    put_frame(&mut *bytes, start, frame);
-    0
+    answer(write(width as usize, height as usize, frame, bytes))
 }

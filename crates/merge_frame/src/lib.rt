@@ -8,6 +8,7 @@ ghost use Rattle.merge_frame.specs.Prelude.{length, scene_of, merged};
 ghost use Rattle.merge_frame.specs.Ready.{Lent, RowsLent};
 ghost use Rattle.merge_frame.specs.Progress.{merged_rows};
 
+use merge_tiles::Burst;
 use recipe::Merge;
 
 // The rows of the merge between the tile rows `first` and `last`, a side of them a tile row, into an output of just these rows, of input that has passed the tests; it
@@ -24,26 +25,13 @@ pub fn merge_rows(
     requires { RowsLent m samples.now vectors.now first last (length output.old) (length work.old) }
     ensures { output.new ≡ merged_rows m.shape.side (scene_of m samples.now vectors.now) first last }
 {
-    planes::merge_parity(
-        m,
+    let burst = Burst {
+        merge: m,
         samples,
         vectors,
-        0,
-        first,
-        last,
-        &mut *output,
-        &mut *work,
-    );
-    planes::merge_parity(
-        m,
-        samples,
-        vectors,
-        1,
-        first,
-        last,
-        &mut *output,
-        &mut *work,
-    );
+    };
+    planes::merge_parity(burst, 0, first, last, &mut *output, &mut *work);
+    planes::merge_parity(burst, 1, first, last, &mut *output, &mut *work);
 }
 
 // The merge: all of its rows.

@@ -5,51 +5,34 @@ ghost use Rattle.merge_frame.specs.Ready.{ParityReady, BandReady};
 ghost use Rattle.merge_frame.specs.Progress.{RowsMerged, BandMerged};
 
 use merge_gather::output_row;
-use recipe::Merge;
+use merge_tiles::Burst;
 
-// The corrections of each pair of a row, of either side. Called from two places each, the rows of either side are compiled by themselves, so that neither takes
-// the other's stack.
-fn correction_row(
-    m: Merge,
-    samples: &[u16],
-    vectors: &[i32],
-    parity: usize,
-    row: usize,
-    work: &mut [i64],
-)
-    requires { record { accepted : Accepted m.shape.side m samples.now vectors.now; parity : parity < 2; row-most : row ≤ m.shape.height / m.shape.side; room : 2 * row_words m.shape.side m.shape.width ≤ length work.old } }
-    ensures { Stored m.shape.side (scene_of m samples.now vectors.now) parity row work.old work.new }
+// The corrections of each pair of a row, of either side.
+fn correction_row(burst: Burst<'_>, parity: usize, row: usize, work: &mut [i64])
+    requires { record { accepted : Accepted burst.merge.shape.side burst.merge burst.samples.now burst.vectors.now; parity : parity < 2; row-most : row ≤ burst.merge.shape.height / burst.merge.shape.side; room : 2 * row_words burst.merge.shape.side burst.merge.shape.width ≤ length work.old } }
+    ensures { Stored burst.entry.merge.shape.side (scene_of burst.entry.merge burst.entry.samples.now burst.entry.vectors.now) parity row work.old work.new }
 {
-    if m.shape.side == 32 {
-        if parity == 0 {
-            merge_tiles32::rows::correction_row(m, samples, vectors, 0, row, &mut *work);
-            return;
-        }
-        merge_tiles32::rows::correction_row(m, samples, vectors, 1, row, &mut *work);
+    if burst.merge.shape.side == 32 {
+        merge_tiles32::rows::correction_row(burst, parity, row, &mut *work);
         return;
     }
-    if parity == 0 {
-        merge_tiles::rows::correction_row(m, samples, vectors, 0, row, &mut *work);
-        return;
-    }
-    merge_tiles::rows::correction_row(m, samples, vectors, 1, row, &mut *work);
+    merge_tiles::rows::correction_row(burst, parity, row, &mut *work);
 }
 
 // The rows between the tile rows `band`, which the work area holds, and `band` + 1, of an output that begins at the tile row `first`.
 fn merge_band(
-    m: Merge,
-    samples: &[u16],
-    vectors: &[i32],
+    burst: Burst<'_>,
     parity: usize,
     first: usize,
     band: usize,
     output: &mut [u16],
     work: &mut [i64],
 )
-    requires { BandReady m samples.now vectors.now parity first band (length output.old) work.old }
-    ensures { BandMerged m.shape.side (scene_of m samples.now vectors.now) (m.shape.side * first) parity band output.old output.new work.new }
+    requires { BandReady burst.merge burst.samples.now burst.vectors.now parity first band (length output.old) work.old }
+    ensures { BandMerged burst.entry.merge.shape.side (scene_of burst.entry.merge burst.entry.samples.now burst.entry.vectors.now) (burst.entry.merge.shape.side * first) parity band output.old output.new work.new }
 {
-    correction_row(m, samples, vectors, parity, band + 1, &mut *work);
+    correction_row(burst, parity, band + 1, &mut *work);
+    let m = burst.merge;
     let shape = m.shape;
     let half = shape.side / 2;
     let top = shape.side * first;
@@ -57,7 +40,7 @@ fn merge_band(
         output_row(
             shape,
             m.reference,
-            samples,
+            burst.samples,
             parity,
             half * band + i,
             top,
@@ -69,29 +52,18 @@ fn merge_band(
 
 // The rows of a parity between the tile rows `first` and `last`.
 pub fn merge_parity(
-    m: Merge,
-    samples: &[u16],
-    vectors: &[i32],
+    burst: Burst<'_>,
     parity: usize,
     first: usize,
     last: usize,
     output: &mut [u16],
     work: &mut [i64],
 )
-    requires { ParityReady m samples.now vectors.now parity first last (length output.old) (length work.old) }
-    ensures { RowsMerged (scene_of m samples.now vectors.now) (m.shape.side * first) parity (m.shape.side / 2 * first) (m.shape.side / 2 * last) output.old output.new }
+    requires { ParityReady burst.merge burst.samples.now burst.vectors.now parity first last (length output.old) (length work.old) }
+    ensures { RowsMerged (scene_of burst.entry.merge burst.entry.samples.now burst.entry.vectors.now) (burst.entry.merge.shape.side * first) parity (burst.entry.merge.shape.side / 2 * first) (burst.entry.merge.shape.side / 2 * last) output.old output.new }
 {
-    correction_row(m, samples, vectors, parity, first, &mut *work);
+    correction_row(burst, parity, first, &mut *work);
     for band in first..last {
-        merge_band(
-            m,
-            samples,
-            vectors,
-            parity,
-            first,
-            band,
-            &mut *output,
-            &mut *work,
-        );
+        merge_band(burst, parity, first, band, &mut *output, &mut *work);
     }
 }

@@ -1,1 +1,2 @@
 pub mod Filtering
+pub mod Made

@@ -11,3 +11,5 @@ pub mod NoiseLaws
 pub mod SumLaws
 pub mod TileLaws
 pub mod StoreLaws
+pub mod Sixteen
+pub mod PairSizes

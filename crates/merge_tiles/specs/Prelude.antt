@@ -12,6 +12,7 @@ pub use Rattle.geometry.specs.declared.Shape.{Shape}
 pub use Rattle.recipe.specs.Scene.{Scene, reference_root}
 unfoldable pub use Rattle.recipe.specs.Scene.{black_of, other_tile, reference_tile, scene_at, tile_at, tile_difference, tile_here, tile_noise, tile_spatial}
 pub use Rattle.recipe.specs.Side.{Side}
+unfoldable pub use Rattle.recipe.specs.Sides.{side_of}
 unfoldable pub use Rattle.recipe.specs.Spatial.{copy_at, merged_sum, spatial_at, taken_at}
 pub use Rattle.recipe.specs.SpatialNoise.{frequency, spatial_number}
 unfoldable pub use Rattle.recipe.specs.Tables.{side16}

@@ -1,12 +1,17 @@
--- Inside this crate: how large P of a tile of side 32 is, whatever the differences.
-use Rattle.std.specs.Prelude.{◌+◌, ◌*◌, ◌/◌, ◌^◌, ◌≤◌, ◌-ℤ◌, ◌*ℤ◌}
-use Rattle.merge_tiles32.specs.Prelude.{ℕ, arith, lit≤, lit<, ℤ, nat_abs, side32, long_noise_most}
-use Rattle.std.proofs.Common.{le_trans, mul-le-mul_right, le_refl}
+-- Inside this crate: side 32 as its corrector has it, and how large P of such a tile is, whatever the differences.
+use Rattle.std.specs.Prelude.{◌≡◌, ◌+◌, ◌*◌, ◌/◌, ◌^◌, ◌≤◌, ◌-ℤ◌, ◌*ℤ◌}
+use Rattle.merge_tiles32.specs.Prelude.{ℕ, arith, lit≤, lit<, refl, subst, sym, ℤ, nat_abs, side32, long_noise_most}
+use Rattle.std.proofs.Common.{inr, le_trans, mul-le-mul_right, le_refl}
 use Rattle.algebra.specs.Order.{abs-sub, abs-mul-le}
 use Rattle.algebra.specs.SumLaws.{abs-sum-bound}
 use Rattle.recipe.specs.Correction.{wiener, filtered, twiddle_re, twiddle_im, inverse_re, inverse_at, correction_at}
+use Rattle.recipe.specs.NoiseNumber.{noise_number}
+use Rattle.recipe.specs.Sides.{side_of}
+use Rattle.recipe.specs.SideLaws.{of-32}
+use Rattle.noise.specs.NoiseNumberLaws.{long-noise-bound}
 use Rattle.tile_spectrum.specs.RoundingLaws.{away-most}
 use Rattle.tile_spectrum.specs.WienerLaws.{wiener-root}
+use Rattle.merge_tiles.specs.Asked.{CorrectorLaws}
 use Rattle.closeness.specs.Closeness.{twiddle}
 use Rattle.closeness.specs.Side32.{fitting32}
 
@@ -42,3 +47,17 @@ unfolding correction_at filtered
 correction-small-32 noise l d y x =
     let root : (q r : ℤ) → nat_abs (wiener noise q r) ≤ root_most = λ q r. wiener-root noise root_most q r (lit< tt) (le_trans l (lit≤ tt)) in
     le_trans (inverse-most _ _ (λ u v. root _ _) (λ u v. root _ _) y x) (lit≤ tt)
+
+-- side 32 as its corrector has it
+pub side_is : side_of 32 ≡ side32
+side_is = of-32 refl
+
+pub laws_of_32 : CorrectorLaws 64 32 long_noise_most long_small_most
+laws_of_32 =
+    record {
+      size = record { sided = record { is = inr refl }; twice = refl };
+      noise = λ t ls lr r ht hs hr h. subst (λ n. noise_number n t ls lr r ≤ long_noise_most) (sym side_is) (long-noise-bound ht hs hr h);
+      correction = λ noise l d y x. subst (λ n. nat_abs (correction_at n noise d y x) ≤ long_small_most) (sym side_is) (correction-small-32 noise l d y x);
+      top_most = lit≤ tt;
+      few = lit≤ tt;
+    }

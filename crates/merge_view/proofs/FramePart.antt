@@ -1,7 +1,6 @@
 -- A frame's part lies in the burst, and its planes are half as wide and high.
 use Rattle.std.specs.Prelude.{◌≡◌, ◌+◌, ◌-◌, ◌*◌, ◌/◌, ◌≤◌, ◌<◌}
-use Rattle.merge_view.specs.Prelude.{ap, List, ℕ, arith, length, take, drop, Shape, frame_stride, sample_length, Sampled}
-use Rattle.geometry.specs.ShapeLaws.{samples-most}
+use Rattle.merge_view.specs.Prelude.{ap, List, ℕ, arith, length, take, drop, Shape, frame_stride, Sampled}
 use Rattle.geometry.specs.ReadLaws.{frame-room}
 use Rattle.merge_view.specs.View.{frame_part, Planar}
 
@@ -18,10 +17,6 @@ lent s samples frame =
 module _ {s : Shape} {samples : List ℕ} (sampled : Sampled s samples) where
   pub room : (frame : ℕ) → frame < s.count → frame * frame_stride s + frame_stride s ≤ length samples
   room frame below = omega (arith, frame-room s frame below, sampled.long)
-
-  pub small : length samples ≤ 142606336
-  unfolding sample_length
-  small = omega (arith, samples-most sampled.allowed, sampled.long)
 
   pub wide : s.width ≡ 2 * (s.width / 2)
   wide = omega (arith, sampled.allowed.wide.whole)

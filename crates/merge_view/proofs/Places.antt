@@ -1,24 +1,9 @@
--- Places of a plane are places of its frame, and a frame is small.
-use Rattle.std.specs.Prelude.{◌≡◌, ◌+◌, ◌*◌, ◌/◌, ◌%◌, ◌^◌, ◌≤◌, ◌<◌, ◌+ℤ◌, ◌≤ℤ◌}
-use Rattle.merge_view.specs.Prelude.{ap, ◌∙◌, List, ℕ, arith, lit≤, length, get_or, ℤ, pos, negsuc, nat_abs, tab, sample_index, sample_at, plane_of, inside, read}
-use native.Mathlib.Nat.{le_trans, mul-le-mul, mul-le-mul_right, add-mul}
+-- Places of a plane are places of its frame.
+use Rattle.std.specs.Prelude.{◌≡◌, ◌+◌, ◌*◌, ◌/◌, ◌%◌, ◌≤◌, ◌+ℤ◌, ◌≤ℤ◌}
+use Rattle.merge_view.specs.Prelude.{ap, ◌∙◌, List, ℕ, arith, length, get_or, ℤ, pos, negsuc, nat_abs, tab, sample_index, sample_at, plane_of, inside, read}
 use Rattle.sequences.specs.Grid.{tab-ext}
 use Rattle.geometry.specs.ReadLaws.{inside-same}
-use Rattle.merge_view.specs.View.{row_length_of, plane_image, plane_sample, pair_row, Shaped, FrameRows, RowStart}
-
-module _ {row_length height rowParity columnParity : ℕ} (p : FrameRows row_length height rowParity columnParity) where
-  -- the row of the frame ends in it
-  pub row_room : (row : ℕ) → row < height → (2 * row + rowParity) * row_length + row_length ≤ 2 * height * row_length
-  row_room row h =
-      let rows : (2 * row + rowParity + 1) * row_length ≤ 2 * height * row_length = mul-le-mul_right row_length (omega (arith, p.row)) in
-      omega (arith, add-mul (2 * row + rowParity) 1 row_length)
-
-  pub frame_small : 2 * height * row_length ≤ 2 ^ 25
-  frame_small = le_trans (mul-le-mul {n₁ = 2 * height} {m₁ = row_length} {n₂ = 4096} {m₂ = 4352} (omega (arith, p.height_most)) p.row-most) (lit≤ tt)
-
-pub shaped-small : {count width height rowParity columnParity : ℕ} → Shaped count width height rowParity columnParity → count ≤ 2 ^ 25
-shaped-small {count} {height = height} s =
-    omega (arith, s.whole, mul-le-mul {n₁ = 2 * height} {m₁ = row_length_of count height} {n₂ = 4096} {m₂ = 4352} (omega (arith, s.planar.height_most)) s.row-most)
+use Rattle.merge_view.specs.View.{row_length_of, plane_image, plane_sample, pair_row, RowStart}
 
 -- a row of a pair by where its row starts in the plane of column parity 0
 module _ {y : ℤ} {height rowParity r : ℕ} (samples : List ℕ) (width : ℕ) (s : RowStart y (row_length_of (length samples) height) height rowParity 0 r) where

@@ -1,8 +1,6 @@
 // A view of one plane of one frame: it reads the caller's samples without copying them.
 #![tactic(auto)]
 
-pub mod thirty_two;
-
 ghost use Rattle.std.specs.Prelude.{◌≡◌, ◌+◌, ◌*◌, ◌/◌, ◌%◌, ◌≤◌, ◌<◌, ◌+ℤ◌};
 ghost use Rattle.merge_view.specs.Prelude.{pos, length, get_or, tab, sample_at, inside, Sampled};
 ghost use Rattle.merge_view.specs.View.{pair_of, pair_row, plane_pair, Near, RowPlace, FrameRows, RowStart};
@@ -19,6 +17,27 @@ pub struct PlaneView<'a> {
     pub height: usize,
     pub parity: usize,
     pub column: usize,
+}
+
+impl<'a> PlaneView<'a> {
+    // A row of the pair of tiles of the view's plane, which is of column parity 0, and of the plane beside it, whose samples stand one word further:
+    // the samples are in the order of the frame's row. The row is y and the first column x.
+    pub fn row<const LANES: usize>(self, y: i64, x: i64) -> [u16; LANES]
+        requires place { RowPlace (length self.samples.now) self.width self.height self.parity self.column x }
+        requires even { LANES % 2 ≡ 0 }
+        requires most { LANES ≤ 64 }
+        ensures { result ≡ pair_row (LANES / 2) y x self.entry.samples.now self.entry.width self.entry.height self.entry.parity }
+    {
+        row_at(
+            y,
+            x,
+            self.samples,
+            self.width,
+            self.height,
+            self.parity,
+            self.column,
+        )
+    }
 }
 
 // Where the row that is read for y starts in the frame: its first sample of the plane.
@@ -38,24 +57,27 @@ fn along(z: i64, k: usize) -> i64
 }
 
 // A row of a pair that lies inside its planes, by the place of its first sample: no sample needs a test against the edges.
-fn inner_pair(samples: &[u16], first: usize) -> [u16; 32]
-    requires { first + 31 < length samples.now }
-    ensures { result ≡ tab 32 (λ l. get_or samples.now (first + l) 0) }
+fn inner_pair<const LANES: usize>(samples: &[u16], first: usize) -> [u16; LANES]
+    requires { first + LANES ≤ length samples.now }
+    ensures { result ≡ tab LANES (λ l. get_or samples.now (first + l) 0) }
 {
-    let mut row = [0u16; 32];
-    for l in 0..32 {
-        row[l] = samples[first + l];
-    }
+    let mut row = [0u16; LANES];
+    row.copy_from_slice(&samples[first..first + LANES]);
     row
 }
 
 // A row of a pair that may reach over an edge, by where the row starts; its first column is x.
-fn edge_pair(start: usize, x: i64, samples: &[u16], width: usize) -> [u16; 32]
-    requires { record { wide : 0 < width; most : width ≤ 2048; room : start + 2 * width ≤ length samples.now; near : Near x } }
-    ensures { result ≡ tab 32 (λ l. get_or samples.now (start + 2 * inside width (x +ℤ pos (l / 2)) + l % 2) 0) }
+fn edge_pair<const LANES: usize>(
+    start: usize,
+    x: i64,
+    samples: &[u16],
+    width: usize,
+) -> [u16; LANES]
+    requires { record { wide : 0 < width; most : width ≤ 2048; room : start + 2 * width ≤ length samples.now; near : Near x; even : LANES % 2 ≡ 0; lanes : LANES ≤ 64 } }
+    ensures { result ≡ tab LANES (λ l. get_or samples.now (start + 2 * inside width (x +ℤ pos (l / 2)) + l % 2) 0) }
 {
-    let mut row = [0u16; 32];
-    for j in 0..16 {
+    let mut row = [0u16; LANES];
+    for j in 0..LANES / 2 {
         let at = start + 2 * inside(along(x, j), width);
         row[2 * j] = samples[at];
         row[2 * j + 1] = samples[at + 1];
@@ -64,7 +86,7 @@ fn edge_pair(start: usize, x: i64, samples: &[u16], width: usize) -> [u16; 32]
 }
 
 // Row y of the pair whose first column is x: the samples of the plane of column parity 0 and of the plane beside it.
-pub fn row_at(
+pub fn row_at<const LANES: usize>(
     y: i64,
     x: i64,
     samples: &[u16],
@@ -72,105 +94,60 @@ pub fn row_at(
     height: usize,
     parity: usize,
     column: usize,
-) -> [u16; 32]
-    requires { RowPlace (length samples.now) width height parity column x }
-    ensures { result ≡ pair_row 16 y x samples.now width height parity }
+) -> [u16; LANES]
+    requires place { RowPlace (length samples.now) width height parity column x }
+    requires even { LANES % 2 ≡ 0 }
+    requires most { LANES ≤ 64 }
+    ensures { result ≡ pair_row (LANES / 2) y x samples.now width height parity }
 {
     let pitch = samples.len() / (2 * height);
     let start = row_start(y, pitch, height, parity, column);
     if 0 <= x {
         let first = x as usize;
-        if first + 16 <= width {
+        if first + LANES / 2 <= width {
             return inner_pair(samples, start + 2 * first);
         }
     }
     edge_pair(start, x, samples, width)
 }
 
-// A row of the pair of tiles of the view's plane, which is of column parity 0, and of the plane beside it, whose samples stand one word further:
-// the samples are in the order of the frame's row. The row is y and the first column x.
-pub fn row<'a>(view: PlaneView<'a>, y: i64, x: i64) -> [u16; 32]
-    requires { RowPlace (length view.samples.now) view.width view.height view.parity view.column x }
-    ensures { result ≡ pair_row 16 y x view.entry.samples.now view.entry.width view.entry.height view.entry.parity }
-{
-    row_at(
-        y,
-        x,
-        view.samples,
-        view.width,
-        view.height,
-        view.parity,
-        view.column,
-    )
-}
-
-// The same of plain parameters: the view is made of them and read, so that a caller holds no view.
-pub fn row_of(
-    y: i64,
-    x: i64,
-    samples: &[u16],
-    width: usize,
-    height: usize,
-    parity: usize,
-    column: usize,
-) -> [u16; 32]
-    requires { RowPlace (length samples.now) width height parity column x }
-    ensures { result ≡ pair_row 16 y x samples.now width height parity }
-{
-    row(
-        PlaneView {
-            samples,
-            width,
-            height,
-            parity,
-            column,
-        },
-        y,
-        x,
-    )
-}
-
 // tile: the pair whose first row is y and whose first column is x.
-fn fill_pair(
+fn fill_pair<const LANES: usize, const SIDE: usize>(
+    view: PlaneView<'_>,
     y: i64,
     x: i64,
-    samples: &[u16],
-    width: usize,
-    height: usize,
-    parity: usize,
-    tile: &mut [[u16; 32]; 16],
+    tile: &mut [[u16; LANES]; SIDE],
 )
-    requires { record { place : RowPlace (length samples.now) width height parity 0 x; near : Near y; rows : length tile.old ≡ 16 } }
-    ensures { tile.new ≡ plane_pair 16 y x samples.now width height parity }
+    requires { record { place : RowPlace (length view.samples.now) view.width view.height view.parity view.column x; near : Near y; lanes : LANES ≡ 2 * SIDE; most : SIDE ≤ 32 } }
+    ensures { tile.new ≡ plane_pair SIDE y x view.entry.samples.now view.entry.width view.entry.height view.entry.parity }
 {
-    for i in 0..16 {
-        tile[i] = row_of(along(y, i), x, samples, width, height, parity, 0);
+    for i in 0..SIDE {
+        tile[i] = view.row(along(y, i), x);
     }
 }
 
-// tile: the pair of tiles of one row parity of one frame of a burst; the views are made of that frame's part of the words.
-pub fn frame_pair(
+// tile: the pair of tiles of one row parity of one frame of a burst; the view is of that frame's part of the words. A row of the pair has LANES samples, twice the side.
+pub fn frame_pair<const LANES: usize, const SIDE: usize>(
     shape: Shape,
     samples: &[u16],
     frame: usize,
     parity: usize,
     y: i64,
     x: i64,
-    tile: &mut [[u16; 32]; 16],
+    tile: &mut [[u16; LANES]; SIDE],
 )
-    requires { record { sampled : Sampled shape samples.now; frame_below : frame < shape.count; parity : parity < 2; near_y : Near y; near_x : Near x; rows : length tile.old ≡ 16 } }
-    ensures { tile.new ≡ pair_of 16 (shape.height / 2) (shape.width / 2) (sample_at shape samples.now frame) parity y x }
+    requires { record { sampled : Sampled shape samples.now; frame_below : frame < shape.count; parity : parity < 2; near_y : Near y; near_x : Near x; lanes : LANES ≡ 2 * SIDE; most : SIDE ≤ 32 } }
+    ensures { tile.new ≡ pair_of SIDE (shape.height / 2) (shape.width / 2) (sample_at shape samples.now frame) parity y x }
 {
     let words = shape.pitch * shape.height;
     let start = frame * words;
     let end = start + words;
-    fill_pair(
-        y,
-        x,
-        &samples[start..end],
-        shape.width / 2,
-        shape.height / 2,
+    let view = PlaneView {
+        samples: &samples[start..end],
+        width: shape.width / 2,
+        height: shape.height / 2,
         parity,
-        &mut *tile,
-    );
+        column: 0,
+    };
+    fill_pair(view, y, x, &mut *tile);
 }

@@ -8,11 +8,10 @@ use Rattle.refusals.specs.Numbers as no
 use Rattle.refusals.specs.TestLaws.{among, passed, refuse-not}
 use Rattle.refusals.specs.After.{after}
 use Rattle.noise.specs.declared.Noise.{Noise}
-use Rattle.noise.specs.declared.Levels.TheVariants.{Refused}
 use Rattle.noise.specs.Curve.{curve_of}
 use Rattle.noise.specs.Level.{exceeds, floor1024}
 use Rattle.noise.specs.Within.{within}
-use Rattle.noise.specs.Levels.{invalid_noise, above_limits, curve_levels, noise_tests, levels_of, refusal_of, shot_level, read_level, level_refusal, strength_refusal, spatial_refusal}
+use Rattle.noise.specs.Levels.{Refused, invalid_noise, above_limits, curve_levels, noise_tests, levels_of, refusal_of, shot_level, read_level, level_refusal, strength_refusal, spatial_refusal}
 use Rattle.noise.specs.ScalingLaws.{NotNegative, neither, curve-not-negative}
 
 not-over-within : (k : ℕ) (x : Float) → NotNegative x → exceeds k x ≡ false → T (within k x)

@@ -7,10 +7,13 @@ use Rattle.refusals.specs.Some.{some}
 use Rattle.noise.specs.declared.Curve.{Curve}
 use Rattle.noise.specs.declared.Noise.{Noise}
 use Rattle.noise.specs.declared.Noise.TheVariants.{Measured, Iso}
-use Rattle.noise.specs.declared.Levels.{Levels}
-use Rattle.noise.specs.declared.Levels.TheVariants.{Found, Refused}
 use Rattle.noise.specs.Curve.{curve_of}
 use Rattle.noise.specs.Level.{invalid, exceeds, floor1024}
+
+-- what a noise is answered with: its levels Ls and Lr, or the number of the refusal
+pub data Levels : Type 0 where
+  Found : (shot read : ℕ) → Levels
+  Refused : (number : ℕ) → Levels
 
 -- refusal 8, "shot or read negative or not finite": of the curve as given
 unfoldable pub invalid_curve : Curve → Bool

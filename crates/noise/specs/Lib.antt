@@ -10,3 +10,4 @@ pub mod LevelLaws
 pub mod DistanceTable
 pub mod SpatialRange
 pub mod SpatialLaws
+pub mod Code

@@ -1,6 +1,7 @@
 // The curve after ISO, its tests, and the floor of 1024 times a float.
 ghost use Rattle.std.specs.Prelude.{◌≡◌};
 ghost use Rattle.algebra.specs.Prelude.{T};
+ghost use Rattle.refusals.specs.Refused.{answer_of};
 ghost use Rattle.refusals.specs.Tests.{first};
 ghost use Rattle.noise.specs.Curve.{at_iso, curve_of};
 ghost use Rattle.noise.specs.Level.{invalid, floor1024};
@@ -8,6 +9,7 @@ ghost use Rattle.noise.specs.Within.{within};
 ghost use Rattle.noise.specs.Levels.{invalid_curve, invalid_iso, invalid_noise, above_limits, noise_tests};
 
 use crate::{Curve, Noise};
+use refusals::{Refusal, refuse};
 
 // alpha = iso / 100; alpha times shot; (alpha times alpha) times read.
 fn at_iso(iso: u32, base: Curve) -> Curve
@@ -33,20 +35,15 @@ pub fn curve_of(noise: Noise) -> Curve
 fn invalid_number(x: f64) -> bool
     ensures { result ≡ invalid x }
 {
-    if x < 0.0 {
-        return true;
-    }
-    !(x < 1.0 / 0.0)
+    x < 0.0 || !(x < 1.0 / 0.0)
 }
 
 // Either number is.
+#[tactic(auto, unfolding(crate::specs::Levels::invalid_curve))]
 fn invalid_curve(curve: Curve) -> bool
     ensures { result ≡ invalid_curve curve }
 {
-    if invalid_number(curve.shot) {
-        return true;
-    }
-    invalid_number(curve.read)
+    invalid_number(curve.shot) || invalid_number(curve.read)
 }
 
 const ISO_LEAST: u32 = 25;
@@ -54,27 +51,21 @@ const ISO_LEAST: u32 = 25;
 const ISO_MOST: u32 = 409600;
 
 // Outside these.
+#[tactic(auto, unfolding(crate::specs::Levels::invalid_iso))]
 fn invalid_iso(iso: u32) -> bool
     ensures { result ≡ invalid_iso iso }
 {
-    if iso < ISO_LEAST {
-        return true;
-    }
-    ISO_MOST < iso
+    iso < ISO_LEAST || ISO_MOST < iso
 }
 
 // The condition of refusal 8.
+#[tactic(auto, unfolding(crate::specs::Levels::invalid_noise))]
 pub fn invalid_noise(noise: Noise) -> bool
     ensures { result ≡ invalid_noise noise }
 {
     match noise {
         Noise::Measured(curve) => invalid_curve(curve),
-        Noise::Iso { iso, base } => {
-            if invalid_iso(iso) {
-                return true;
-            }
-            invalid_curve(base)
-        }
+        Noise::Iso { iso, base } => invalid_iso(iso) || invalid_curve(base),
     }
 }
 
@@ -83,25 +74,20 @@ const SHOT_MOST: f64 = 64.0;
 const READ_MOST: f64 = 4096.0;
 
 // The condition of refusal 9.
+#[tactic(auto, unfolding(crate::specs::Levels::above_limits))]
 pub fn above_limits(curve: Curve) -> bool
     ensures { result ≡ above_limits curve }
 {
-    if curve.shot > SHOT_MOST {
-        return true;
-    }
-    curve.read > READ_MOST
+    curve.shot > SHOT_MOST || curve.read > READ_MOST
 }
 
 // Refusals 8 and 9.
-pub fn noise_refusal(noise: Noise) -> u64
-    ensures { result ≡ first (noise_tests noise) }
+#[tactic(auto, using(refusals::specs::RefusedLaws::refuses), unfolding(crate::specs::Levels::noise_tests, refusals::specs::Tests::first))]
+pub fn noise_refusal(noise: Noise) -> Result<(), Refusal>
+    ensures { answer_of result ≡ first (noise_tests noise) }
 {
-    let invalid = invalid_noise(noise);
-    let above = above_limits(curve_of(noise));
-    refusals::first(&[
-        refusals::refuse(refusals::NOISE, invalid),
-        refusals::refuse(refusals::NOISE_LIMIT, above),
-    ])
+    refuse(Refusal::Noise, invalid_noise(noise))?;
+    refuse(Refusal::NoiseLimit, above_limits(curve_of(noise)))
 }
 
 // By the sign, the exponent's field and the fraction's digits of x, which is from 0 to 4096.

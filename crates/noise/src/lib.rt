@@ -6,9 +6,13 @@ pub mod spatial;
 
 ghost use Rattle.std.specs.Prelude.{◌≡◌, ◌≤◌};
 ghost use Rattle.noise.specs.Prelude.{side16, side32, noise_number};
+ghost use Rattle.refusals.specs.Refused.{answer_of};
 ghost use Rattle.noise.specs.Levels.{levels_of, level_refusal, strength_refusal, black_refusal, spatial_refusal};
+ghost use Rattle.noise.specs.Code.{levels_in};
 ghost use Rattle.recipe.specs.Sides.{side_of};
 ghost use Rattle.noise.specs.Range.{InRange};
+
+use refusals::{Refusal, refuse};
 
 // The variance of a sample of expected value x is shot * x + read.
 #[derive(Clone, Copy)]
@@ -24,25 +28,22 @@ pub enum Noise {
     Iso { iso: u32, base: Curve },
 }
 
-// Ls and Lr, or the number of the refusal.
+// Ls and Lr.
 #[derive(Clone, Copy)]
-pub enum Levels {
-    Found { shot: u64, read: u64 },
-    Refused(u64),
+pub struct Levels {
+    pub shot: u64,
+    pub read: u64,
 }
 
 // Refusals 8 and 9, and the levels.
-pub fn levels_of(noise: Noise) -> Levels
-    ensures { result ≡ levels_of noise }
+pub fn levels_of(noise: Noise) -> Result<Levels, Refusal>
+    ensures { levels_in result ≡ levels_of noise }
 {
-    let number = level::noise_refusal(noise);
-    if number != 0 {
-        return Levels::Refused(number);
-    }
+    level::noise_refusal(noise)?;
     let curve = level::curve_of(noise);
     let shot = level::floor_1024(curve.shot);
     let read = level::floor_1024(curve.read);
-    Levels::Found { shot, read }
+    Ok(Levels { shot, read })
 }
 
 // Ls and Lr in a burst file, t, black levels and s: from 0 to these.
@@ -57,44 +58,42 @@ const BLACK_MOST: u16 = 255;
 const SPATIAL_MOST: u64 = 256;
 
 // Refusal 9 in a burst file.
-pub fn level_refusal(ls: u64, lr: u64) -> u64
-    ensures { result ≡ level_refusal ls lr }
+#[tactic(auto, unfolding(crate::specs::Levels::level_refusal))]
+pub fn level_refusal(ls: u64, lr: u64) -> Result<(), Refusal>
+    ensures { answer_of result ≡ level_refusal ls lr }
 {
-    if SHOT_LEVEL_MOST < ls {
-        return refusals::NOISE_LIMIT;
-    }
-    if READ_LEVEL_MOST < lr {
-        return refusals::NOISE_LIMIT;
-    }
-    0
+    refuse(
+        Refusal::NoiseLimit,
+        SHOT_LEVEL_MOST < ls || READ_LEVEL_MOST < lr,
+    )
 }
 
 // Refusal 10.
-pub fn strength_refusal(t: u64) -> u64
-    ensures { result ≡ strength_refusal t }
+#[tactic(auto, unfolding(crate::specs::Levels::strength_refusal))]
+pub fn strength_refusal(t: u64) -> Result<(), Refusal>
+    ensures { answer_of result ≡ strength_refusal t }
 {
-    refusals::refuse(refusals::STRENGTH, STRENGTH_MOST < t)
+    refuse(Refusal::Strength, STRENGTH_MOST < t)
 }
 
 // Refusal 18.
-pub fn black_refusal(black: [u16; 4]) -> u64
-    ensures { result ≡ black_refusal black }
+pub fn black_refusal(black: [u16; 4]) -> Result<(), Refusal>
+    ensures { answer_of result ≡ black_refusal black }
 {
-    let mut k = 0;
-    while k < 4 {
-        if BLACK_MOST < black[k] {
-            return refusals::BLACK_LEVEL;
+    for level in &black {
+        if BLACK_MOST < *level {
+            return Err(Refusal::BlackLevel);
         }
-        k += 1;
     }
-    0
+    Ok(())
 }
 
 // Refusal 24.
-pub fn spatial_refusal(s: u64) -> u64
-    ensures { result ≡ spatial_refusal s }
+#[tactic(auto, unfolding(crate::specs::Levels::spatial_refusal))]
+pub fn spatial_refusal(s: u64) -> Result<(), Refusal>
+    ensures { answer_of result ≡ spatial_refusal s }
 {
-    refusals::refuse(refusals::SPATIAL_STRENGTH, SPATIAL_MOST < s)
+    refuse(Refusal::SpatialStrength, SPATIAL_MOST < s)
 }
 
 // V of a tile's root.

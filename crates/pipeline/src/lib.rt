@@ -12,11 +12,7 @@ use recipe::Merge;
 pub fn clear(work: &mut [i64])
     ensures { work.new ≡ zeros work.old }
 {
-    let mut i = 0;
-    while i < work.len() {
-        work[i] = 0;
-        i += 1;
-    }
+    work.fill(0);
 }
 
 // Align, merge and clear, from the levels on: answers the sums of finest residuals and the tile rows summed. The vectors found need no test: they

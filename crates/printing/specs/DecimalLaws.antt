@@ -1,7 +1,9 @@
 -- The digits of n by cases of n, and how many there are at most.
-use Rattle.printing.specs.Prelude.{refl, ap, [], ℕ, zero, suc, arith}
+use Rattle.printing.specs.Prelude.{refl, sym, ap, List, [], ℕ, zero, suc, arith}
 use Rattle.std.proofs.Common.{pow-suc, length-append}
-use Rattle.std.specs.Prelude.{length, ◌≡◌, ◌∷◌, ◌++◌, ◌/◌, ◌%◌, ◌^◌, ◌≤◌, ◌<◌}
+use Rattle.std.proofs.Common.{inl, inr, lit≤}
+use Rattle.std.proofs.lemmas.Bool.{cases_lt}
+use Rattle.std.specs.Prelude.{length, take, set, ◌≡◌, ◌∷◌, ◌++◌, ◌/◌, ◌%◌, ◌^◌, ◌≤◌, ◌<◌, ◌+◌}
 use Rattle.printing.specs.Decimal.{digit, digits, decimal}
 
 -- a count of n is enough: a larger one changes nothing
@@ -52,3 +54,21 @@ unfolding decimal
 decimal-length m n h =
     let s = digits-length n (n / 10) m (omega (arith, rw pow-suc at h)) in
     rw length-append (omega arith)
+
+last-digit : (n : ℕ) → length (decimal n) ≡ length (digits n (n / 10)) + 1
+unfolding decimal
+last-digit n = length-append (digits n (n / 10)) (digit (n % 10) ∷ [])
+
+pub shorter : (n : ℕ) → length (decimal (n / 10)) ≤ length (decimal n)
+shorter n = elim (cases_lt n 10) [
+  | inl small ↦ let none : n / 10 ≡ 0 = omega arith in rw none (omega (arith, last-digit n, ap length (decimal-small {n = 0} (lit≤ tt))))
+  | inr more ↦ omega (arith, ap length (decimal-more more), length-append (decimal (n / 10)) (digit (n % 10) ∷ []))
+]
+
+-- one digit, written in front
+pub alone : (buffer : List ℕ) (n : ℕ) → n < 10 → 0 < length buffer → take 1 (set buffer 0 (digit n)) ≡ decimal n
+alone [] n h g = absurd (omega arith)
+alone (x ∷ buffer) n h g = sym (decimal-small h)
+
+-- what a number's digits are, by the size of the number
+pub ruleset decimal_steps = (decimal-small, decimal-more, shorter, alone, length-append)

@@ -43,3 +43,8 @@ module _ {l : List ℕ} {at : ℕ} where
         place = omega (arith, length-append a b);
         same = q.same ∙ p.same;
       }
+
+-- a text put at the start of a buffer is what it then starts with
+pub printed-front : {l text m : List ℕ} {next : ℕ} → Printed l 0 text m next → take next m ≡ text
+unfolding put
+printed-front {l} {text} {m} {next} p = ap (take next) p.text ∙ take_at text (drop (0 + length text) l) next (omega (arith, p.place))

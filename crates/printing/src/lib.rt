@@ -1,6 +1,8 @@
-// The texts that the programs print, put piece after piece into a lent buffer.
+// The texts that the programs print.
 #![tactic(auto)]
 
-pub mod fixed;
-pub mod lines;
+mod lines;
 pub mod pieces;
+mod text;
+
+pub use text::Text;

@@ -14,15 +14,14 @@ pub fn put_byte(text: &mut [u8], at: usize, byte: u8) -> usize
 }
 
 // A text.
+#[tactic(auto, unfolding(crate::specs::Put::put))]
 pub fn put_bytes(text: &mut [u8], at: usize, bytes: &[u8]) -> usize
     requires { at + length bytes.now ≤ length text.old }
     ensures { Printed text.old at bytes.now text.new result }
 {
-    let mut next = at;
-    for k in 0..bytes.len() {
-        next = put_byte(&mut *text, next, bytes[k]);
-    }
-    next
+    let end = at + bytes.len();
+    text[at..end].copy_from_slice(bytes);
+    end
 }
 
 // The decimal digits of n, at most 20.

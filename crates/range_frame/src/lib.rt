@@ -7,6 +7,7 @@ mod planes;
 ghost use Rattle.std.specs.Prelude.{length};
 ghost use Rattle.range_frame.specs.Ready.{RangeLent, FramesRanged};
 
+use merge_tiles::Burst;
 use range_tiles::Upper;
 use recipe::Merge;
 
@@ -23,10 +24,11 @@ pub fn range_frames(
     requires { RangeLent m upper samples.now vectors.now (length low.old) (length high.old) (length work.old) }
     ensures { FramesRanged m upper samples.now vectors.now low.new high.new }
 {
-    planes::range_parity(
-        m, upper, samples, vectors, 0, &mut *low, &mut *high, &mut *work,
-    );
-    planes::range_parity(
-        m, upper, samples, vectors, 1, &mut *low, &mut *high, &mut *work,
-    );
+    let burst = Burst {
+        merge: m,
+        samples,
+        vectors,
+    };
+    planes::range_parity(burst, upper, 0, &mut *low, &mut *high, &mut *work);
+    planes::range_parity(burst, upper, 1, &mut *low, &mut *high, &mut *work);
 }

@@ -6,10 +6,9 @@ ghost use Rattle.range_frame.specs.Ready.{RowsReady, ParityReady, BandReady};
 
 use geometry::Shape;
 use merge_gather::output_row;
-use merge_tiles::{HALF_SIDE, SIDE};
+use merge_tiles::{Burst, HALF_SIDE, SIDE};
 use range_tiles::Upper;
 use range_tiles::rows::end_row;
-use recipe::Merge;
 
 // Row y of a row parity of both frames: the low one's from the greatest sums, the high one's from the least.
 fn output_rows(
@@ -41,26 +40,24 @@ fn output_rows(
 
 // The rows between the tile rows `band`, which the work area holds, and `band` + 1.
 fn range_band(
-    m: Merge,
+    burst: Burst<'_>,
     upper: Upper,
-    samples: &[u16],
-    vectors: &[i32],
     parity: usize,
     band: usize,
     low: &mut [u16],
     high: &mut [u16],
     work: &mut [i64],
 )
-    requires { BandReady m upper samples.now vectors.now parity band (length low.old) (length high.old) work.old }
-    ensures { at_noises BandRanged m upper samples.now vectors.now parity band low.old low.new high.old high.new work.new }
+    requires { BandReady burst.merge upper burst.samples.now burst.vectors.now parity band (length low.old) (length high.old) work.old }
+    ensures { at_noises BandRanged burst.entry.merge upper burst.entry.samples.now burst.entry.vectors.now parity band low.old low.new high.old high.new work.new }
 {
-    end_row(m, upper, samples, vectors, parity, band + 1, &mut *work);
-    let shape = m.shape;
+    end_row(burst, upper, parity, band + 1, &mut *work);
+    let m = burst.merge;
     for i in 0..HALF_SIDE {
         output_rows(
-            shape,
+            m.shape,
             m.reference,
-            samples,
+            burst.samples,
             parity,
             HALF_SIDE * band + i,
             &*work,
@@ -72,23 +69,21 @@ fn range_band(
 
 // All rows of a parity.
 pub fn range_parity(
-    m: Merge,
+    burst: Burst<'_>,
     upper: Upper,
-    samples: &[u16],
-    vectors: &[i32],
     parity: usize,
     low: &mut [u16],
     high: &mut [u16],
     work: &mut [i64],
 )
-    requires { ParityReady m upper samples.now vectors.now parity (length low.old) (length high.old) (length work.old) }
-    ensures { at_noises RowsRanged m upper samples.now vectors.now parity 0 (8 * (m.shape.height / 16)) low.old low.new high.old high.new }
+    requires { ParityReady burst.merge upper burst.samples.now burst.vectors.now parity (length low.old) (length high.old) (length work.old) }
+    ensures { at_noises RowsRanged burst.entry.merge upper burst.entry.samples.now burst.entry.vectors.now parity 0 (8 * (burst.entry.merge.shape.height / 16)) low.old low.new high.old high.new }
 {
-    end_row(m, upper, samples, vectors, parity, 0, &mut *work);
-    let bands = m.shape.height / SIDE;
+    end_row(burst, upper, parity, 0, &mut *work);
+    let bands = burst.merge.shape.height / SIDE;
     for band in 0..bands {
         range_band(
-            m, upper, samples, vectors, parity, band, &mut *low, &mut *high, &mut *work,
+            burst, upper, parity, band, &mut *low, &mut *high, &mut *work,
         );
     }
 }

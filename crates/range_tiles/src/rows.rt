@@ -7,8 +7,7 @@ ghost use Rattle.range_tiles.specs.EndRows.{least_slot, EndRowLent, EndsStored};
 use crate::{Upper, tile_ends};
 use geometry::tiles::tile_columns;
 use merge_tiles::rows::{slot, store_left, store_right};
-use merge_tiles::{BLOCK, PAIR_WIDTH, SIDE, Site};
-use recipe::Merge;
+use merge_tiles::{Burst, PAIR_WIDTH, SIDE, Site};
 
 // Where a row of the least sums starts: behind two rows of the greatest.
 fn least_slot(width: usize, row: usize) -> usize
@@ -19,22 +18,15 @@ fn least_slot(width: usize, row: usize) -> usize
 }
 
 // What both ends take from each pair of a row.
-pub fn end_row(
-    m: Merge,
-    upper: Upper,
-    samples: &[u16],
-    vectors: &[i32],
-    parity: usize,
-    row: usize,
-    work: &mut [i64],
-)
-    requires { EndRowLent m upper samples.now vectors.now parity row (length work.old) }
-    ensures { at_noises EndsStored m upper samples.now vectors.now parity row work.old work.new }
+pub fn end_row(burst: Burst<'_>, upper: Upper, parity: usize, row: usize, work: &mut [i64])
+    requires { EndRowLent burst.merge upper burst.samples.now burst.vectors.now parity row (length work.old) }
+    ensures { at_noises EndsStored burst.entry.merge upper burst.entry.samples.now burst.entry.vectors.now parity row work.old work.new }
 {
-    let start = slot(SIDE, m.shape.width, row);
-    let second = least_slot(m.shape.width, row);
-    let blocks = m.shape.width / BLOCK;
-    let columns = tile_columns(m.shape);
+    let shape = burst.merge.shape;
+    let start = slot(SIDE, shape.width, row);
+    let second = least_slot(shape.width, row);
+    let blocks = shape.width / SIDE;
+    let columns = tile_columns(shape);
     for column in 0..columns {
         let site = Site {
             parity,
@@ -43,7 +35,7 @@ pub fn end_row(
         };
         let mut greatest = [[0i64; PAIR_WIDTH]; SIDE];
         let mut least = [[0i64; PAIR_WIDTH]; SIDE];
-        tile_ends(m, upper, samples, vectors, site, &mut greatest, &mut least);
+        tile_ends(burst, upper, site, &mut greatest, &mut least);
         store_left(&mut *work, start, column, &greatest);
         store_right(&mut *work, start, blocks, column, &greatest);
         store_left(&mut *work, second, column, &least);

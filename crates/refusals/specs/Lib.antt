@@ -1,4 +1,5 @@
 pub mod Numbers
+pub mod Refused
 pub mod Tests
 pub mod After
 pub mod Some
@@ -6,3 +7,4 @@ pub mod TestLaws
 pub mod AfterLaws
 pub mod SomeLaws
 pub mod SeenLaws
+pub mod RefusedLaws

@@ -1,12 +1,16 @@
 -- Inner vocabulary, which no public contract reaches: what the private functions ask of each other and leave to each other.
 use Rattle.std.specs.Prelude.{◌≡◌, ◌-◌, ◌*◌, ◌≤◌, ◌<◌}
 use Rattle.report.specs.Prelude.{List, ℕ, length, take, ℤ, Allowed, ValuesFit, aligned_vectors, residual_sums, Header, FileBurst, too_large, refusal}
-use Rattle.report.specs.declared.opening.Opened.{Opened}
-use Rattle.report.specs.declared.text.Program.{Program}
-use Rattle.report.specs.declared.text.Program.TheVariants.{Motion, Stack}
+use Rattle.std.specs.declared.result.Result.{Result}
+use Rattle.std.specs.declared.result.Result.TheVariants.{Ok, Err}
+use Rattle.refusals.specs.Refused.{refusal_number}
+use Rattle.report.specs.declared.opening.Unread.{Unread}
+use Rattle.report.specs.declared.opening.Unread.TheVariants.{TooLarge, Refused}
 use Rattle.report.specs.Program.{program_side, program_text}
-use Rattle.report.specs.Motion.{motion_of}
-use Rattle.report.specs.Stack.{stack_of}
+
+-- room for any text of the programs
+abbrev pub text_room : ℕ
+text_room = 32768
 
 -- the samples of so many frames
 abbrev pub room : (count : ℕ) → ℕ
@@ -41,19 +45,18 @@ pub record Holds (file : List ℕ) (header : Header) (samples : List ℕ) : Type
   pub taken : Taken header samples
   pub text : (printed : FileBurst → List ℕ) → program_text printed file ≡ printed (burst_of header samples)
 
+-- what both programs print for a file that is not read
+abbrev pub unread_text : Unread → List ℕ
+unread_text TooLarge = too_large
+unread_text (Refused found) = refusal (refusal_number found)
+
 -- what was found of a file, and what the lent samples then hold
-abbrev pub Opens : (file samples : List ℕ) → Opened → Type 0
-Opens file samples Opened.TooLarge = (printed : FileBurst → List ℕ) → program_text printed file ≡ too_large
-Opens file samples (Opened.Refused number) = (printed : FileBurst → List ℕ) → program_text printed file ≡ refusal number
-Opens file samples (Opened.Taken header) = Holds file header (take (room header.shape.count) samples)
+abbrev pub Opens : (file samples : List ℕ) → Result Header Unread → Type 0
+Opens file samples (Err unread) = (printed : FileBurst → List ℕ) → program_text printed file ≡ unread_text unread
+Opens file samples (Ok header) = Holds file header (take (room header.shape.count) samples)
 
 -- the first of the lent vectors are those of the burst's alignment, beside its sums of finest residuals
 pub record AlignedAs (header : Header) (samples : List ℕ) (vectors : List ℤ) (sums : List ℕ) : Type 0 where
   pub found : take (vector_room (header.shape.count - 1)) vectors ≡ aligned_vectors header.shape header.reference samples
   pub residuals : sums ≡ residual_sums header.shape header.reference samples
   pub same : length vectors ≡ vector_room 7
-
--- what each program prints for a burst
-abbrev pub printed_by : Program → FileBurst → List ℕ
-printed_by Motion burst = motion_of burst
-printed_by Stack burst = stack_of burst

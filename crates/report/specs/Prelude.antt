@@ -5,6 +5,4 @@ pub use Rattle.geometry.specs.Fits.{AlignFits, Allowed, BurstFits, MergeFits, Va
 pub use Rattle.file_burst.specs.declared.head.Header.{Header}
 pub use Rattle.file_burst.specs.Burst.{FileBurst}
 pub use Rattle.printing.specs.Lines.{motion_names, number_line, refusal, sample_rows, stack_names, too_large}
-pub use Rattle.printing.specs.Put.{Printed}
-unfoldable pub use Rattle.printing.specs.Put.{put}
 pub use Rattle.align_burst.specs.Aligned.{aligned_vectors, residual_sums}

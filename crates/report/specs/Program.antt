@@ -9,10 +9,6 @@ use Rattle.file_burst.specs.Reading.{reading}
 abbrev pub file_most : ℕ
 file_most = 65536
 
--- room for any text of the programs
-abbrev pub text_room : ℕ
-text_room = 32768
-
 -- "with W = H = 64"
 abbrev pub program_side : ℕ
 program_side = 64

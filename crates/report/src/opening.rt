@@ -1,43 +1,60 @@
 // What a program makes of a file before it prints.
-ghost use Rattle.std.specs.Prelude.{◌≤◌};
+ghost use Rattle.std.specs.Prelude.{◌≡◌, ◌≤◌};
 ghost use Rattle.algebra.specs.Prelude.{length};
 ghost use Rattle.report.specs.Program.{file_most};
-ghost use Rattle.report.specs.Inner.{room, Opens};
+ghost use Rattle.report.specs.declared.opening.Unread.TheVariants.{Refused};
+ghost use Rattle.report.specs.Inner.{room, unread_text, Opens};
 
-use crate::sizes::{FRAME, FRAME_SIDE};
-use file_burst::head::{Head, Header, read_head};
-use file_burst::{check_file, read_file};
+use crate::sizes::{FRAME, FRAME_SIDE, TEXT_ROOM};
+use file_burst::head::{Header, read_head};
+use file_burst::{check, read_file};
+use printing::Text;
+use refusals::Refusal;
 
-// A file that is not read, or the header of one whose frames have the size that the programs take.
+// Why a file is not read: its length or the size of its frames, or a refusal.
 #[derive(Clone, Copy)]
-pub enum Opened {
+pub enum Unread {
     TooLarge,
-    Refused { number: u64 },
-    Taken { header: Header },
+    Refused(Refusal),
 }
 
-// A refusal comes before the size.
-pub fn open_file(file: &[u8], samples: &mut [u16]) -> Opened
+impl From<Refusal> for Unread {
+    ghost from_gives = { λ refusal unread. unread ≡ Refused refusal };
+
+    fn from(refusal: Refusal) -> Unread {
+        Unread::Refused(refusal)
+    }
+}
+
+impl Unread {
+    // What the programs print for it.
+    pub fn text(self) -> Text<TEXT_ROOM>
+        ensures { result ≡ unread_text self }
+    {
+        let mut text = Text::new();
+        match self {
+            Unread::TooLarge => text.put_bytes(b"too large\n"),
+            Unread::Refused(refusal) => text.put_refusal(refusal.number()),
+        }
+        text
+    }
+}
+
+// The header of a file whose frames have the size that the programs take. A refusal comes before the size.
+pub fn open_file(file: &[u8], samples: &mut [u16]) -> Result<Header, Unread>
     requires { (length file.now ≤ file_most) × (room 8 ≤ length samples.old) }
     ensures { Opens file.now samples.new result }
 {
-    match read_head(file) {
-        Head::Refused { number } => Opened::Refused { number },
-        Head::Found { header, next: _ } => {
-            let number = check_file(file);
-            if number != 0 {
-                return Opened::Refused { number };
-            }
-            let shape = header.shape;
-            if shape.width != FRAME_SIDE {
-                return Opened::TooLarge;
-            }
-            if shape.height != FRAME_SIDE {
-                return Opened::TooLarge;
-            }
-            let end = shape.count * FRAME;
-            read_file(file, &mut samples[..end]);
-            Opened::Taken { header }
-        }
+    let head = read_head(file)?;
+    check(file)?;
+    let shape = head.header.shape;
+    if shape.width != FRAME_SIDE {
+        return Err(Unread::TooLarge);
     }
+    if shape.height != FRAME_SIDE {
+        return Err(Unread::TooLarge);
+    }
+    let end = shape.count * FRAME;
+    read_file(file, &mut samples[..end]);
+    Ok(head.header)
 }

@@ -1,25 +1,42 @@
 // What `stack` prints.
-ghost use Rattle.std.specs.Prelude.{◌≡◌, ◌≤◌};
-ghost use Rattle.report.specs.Prelude.{length, Printed};
-ghost use Rattle.report.specs.Program.{text_room, program_side};
+ghost use Rattle.std.specs.Prelude.{◌≡◌};
+ghost use Rattle.report.specs.Prelude.{length};
+ghost use Rattle.report.specs.Program.{program_side};
 ghost use Rattle.report.specs.Stack.{frame_text, frame_of, stack_of};
 ghost use Rattle.report.specs.Inner.{room, vector_room, work_room, burst_of, Taken};
 
-use crate::sizes::{FRAME, FRAME_SIDE, PARTS, VECTOR_ROOM, WORK_ROOM};
+use crate::sizes::{FRAME, FRAME_SIDE, PARTS, TEXT_ROOM, VECTOR_ROOM, WORK_ROOM};
+use crate::text::Program;
 use file_burst::head::Header;
 use pipeline::run_levels;
-use printing::fixed::put_stack_names;
-use printing::lines::{put_numbers, put_rows};
+use printing::Text;
 use recipe::{Merge, Tuning};
 
+// The program `stack`.
+pub struct Stack;
+
+impl Program for Stack {
+    ghost printed = { stack_of };
+
+    fn text_of(header: Header, samples: &[u16]) -> Text<TEXT_ROOM> {
+        let mut vectors = [0i32; VECTOR_ROOM];
+        let mut output = [0u16; FRAME];
+        let mut work = [0i64; WORK_ROOM];
+        run_burst(header, samples, &mut vectors, &mut output, &mut work);
+        merged_text(&output)
+    }
+}
+
 // The names, the sizes and the rows of a frame.
-fn put_merged(text: &mut [u8], samples: &[u16]) -> usize
-    requires { (length samples.now ≡ room 1) × (text_room ≤ length text.old) }
-    ensures { Printed text.old 0 (frame_text program_side program_side samples.now) text.new result }
+fn merged_text(samples: &[u16]) -> Text<TEXT_ROOM>
+    requires { length samples.now ≡ room 1 }
+    ensures { result ≡ frame_text program_side program_side samples.now }
 {
-    let sizes = put_stack_names(&mut *text, 0);
-    let rows = put_numbers(&mut *text, sizes, &[FRAME_SIDE as u64, FRAME_SIDE as u64]);
-    put_rows(text, rows, samples, FRAME_SIDE, FRAME_SIDE)
+    let mut text = Text::new();
+    text.put_bytes(b"width height\n");
+    text.put_numbers(&[FRAME_SIDE as u64, FRAME_SIDE as u64]);
+    text.put_rows(samples, FRAME_SIDE, FRAME_SIDE);
+    text
 }
 
 // A run from the levels of the file, whose frame it leaves in the output. The vectors are those of at most seven frames.
@@ -49,16 +66,4 @@ fn run_burst(
         tuning,
     };
     run_levels(m, samples, &mut vectors[..end], output, work);
-}
-
-// What `stack` prints for a burst.
-pub fn put_stack(text: &mut [u8], header: Header, samples: &[u16]) -> usize
-    requires { (Taken header samples.now) × (text_room ≤ length text.old) }
-    ensures { Printed text.old 0 (stack_of (burst_of header samples.now)) text.new result }
-{
-    let mut vectors = [0i32; VECTOR_ROOM];
-    let mut output = [0u16; FRAME];
-    let mut work = [0i64; WORK_ROOM];
-    run_burst(header, samples, &mut vectors, &mut output, &mut work);
-    put_merged(text, &output)
 }

@@ -10,7 +10,7 @@ use Rattle.std.specs.Float.Ieee.Back.{round_whole}
 use Rattle.std.specs.Float.Ieee.Fits.{down_pos}
 use Rattle.refusals.specs.After.{after}
 use Rattle.noise.specs.declared.Noise.TheVariants.{Measured}
-use Rattle.noise.specs.declared.Levels.TheVariants.{Found}
+use Rattle.noise.specs.Levels.{Found}
 use Rattle.noise.specs.Level.{invalid, exceeds, floor1024}
 use Rattle.noise.specs.Levels.{invalid_curve, invalid_noise, above_limits, noise_tests, levels_of}
 

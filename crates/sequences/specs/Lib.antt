@@ -10,3 +10,4 @@ pub mod FirstLaws
 pub mod LeastLaws
 pub mod Clear
 pub mod ClearLaws
+pub mod MadeLaws

@@ -9,6 +9,7 @@ ghost use Rattle.sharpness.specs.Words.{RowsIn, word_steps, place_steps, lane_of
 
 use geometry::Shape;
 use geometry::read::sample_at;
+use std::array::from_fn;
 
 // The column parity of the green plane; its row parity is 0.
 const GREEN: usize = 1;
@@ -28,44 +29,77 @@ fn step(a: u16, b: u16) -> u16
     if a < b { b - a } else { a - b }
 }
 
-// Both steps from a word of a frame, in a row of the plane: to the right in its plane, and so many rows of the plane down.
-fn word_steps(
+// A row of the plane of a frame of a burst, and the row so many rows of the plane further down.
+#[derive(Clone, Copy)]
+struct RowPair<'a> {
     shape: Shape,
-    samples: &[u16],
+    samples: &'a [u16],
     frame: usize,
     row: usize,
     down: usize,
-    column: usize,
-) -> u16
-    requires { (RowsIn shape samples.now frame row down) × (column + 2 < shape.width) }
-    ensures { (result ≡ word_steps (sample_at shape samples.now frame) row down column) × (result ≤ word_most) }
-{
-    let here = sample(shape, samples, frame, 2 * row, column);
-    let right = sample(shape, samples, frame, 2 * row, column + 2);
-    let below = sample(shape, samples, frame, 2 * (row + down), column);
-    step(here, right) + step(here, below)
+    ghost inside: { RowsIn shape samples.now frame row down },
 }
 
-// The steps of 32 words from a column on, each word's with those of the word 16 further: words that stand one behind the other become vector
-// instructions, which every other word does not.
-fn lanes(
-    shape: Shape,
-    samples: &[u16],
-    frame: usize,
-    row: usize,
-    down: usize,
-    column: usize,
-) -> [u16; 16]
-    requires { (RowsIn shape samples.now frame row down) × (column + 34 ≤ shape.width) }
-    ensures { result ≡ tab 16 (lane_of (word_steps (sample_at shape samples.now frame) row down) column) }
-{
-    let mut sums = [0u16; 16];
-    for j in 0..16 {
-        let first = word_steps(shape, samples, frame, row, down, column + j);
-        let second = word_steps(shape, samples, frame, row, down, column + 16 + j);
-        sums[j] = first + second;
+impl RowPair<'_> {
+    // Both steps from a word of the row: to the right in its plane, and down.
+    fn word_steps(self, column: usize) -> u16
+        requires { column + 2 < self.shape.width }
+        ensures { (result ≡ word_steps (sample_at self.entry.shape self.entry.samples.now self.entry.frame) self.entry.row self.entry.down column) × (result ≤ word_most) }
+    {
+        let below_row = 2 * (self.row + self.down);
+        let here = sample(self.shape, self.samples, self.frame, 2 * self.row, column);
+        let right = sample(
+            self.shape,
+            self.samples,
+            self.frame,
+            2 * self.row,
+            column + 2,
+        );
+        let below = sample(self.shape, self.samples, self.frame, below_row, column);
+        step(here, right) + step(here, below)
     }
-    sums
+
+    // The steps of 32 words from a column on, each word's with those of the word 16 further: words that stand one behind the other become vector
+    // instructions, which every other word does not.
+    fn lanes(self, column: usize) -> [u16; 16]
+        requires { column + 34 ≤ self.shape.width }
+        ensures { result ≡ tab 16 (lane_of (word_steps (sample_at self.entry.shape self.entry.samples.now self.entry.frame) self.entry.row self.entry.down) column) }
+    {
+        from_fn(|j| self.word_steps(column + j) + self.word_steps(column + 16 + j))
+    }
+
+    // Both steps from each of the row's places, but for the last sixteen.
+    fn block_steps(self) -> u32
+        ensures { (result ≡ sum_n ((self.entry.shape.width / 32 - 1) * 16) (place_steps (sample_at self.entry.shape self.entry.samples.now self.entry.frame) self.entry.row self.entry.down)) × (result ≤ (self.entry.shape.width / 32 - 1) * 524280) }
+    {
+        let mut sum: u32 = 0;
+        for block in 0..self.shape.width / 32 - 1 {
+            sum += green_total(self.lanes(32 * block));
+        }
+        sum
+    }
+
+    // The step from the last place of the row, which has none to its right.
+    fn last_step(self) -> u16
+        ensures { result ≡ last_step (sample_at self.entry.shape self.entry.samples.now self.entry.frame) (self.entry.shape.width / 2) self.entry.row self.entry.down }
+    {
+        let column = 2 * (self.shape.width / 2 - 1) + GREEN;
+        let below_row = 2 * (self.row + self.down);
+        let here = sample(self.shape, self.samples, self.frame, 2 * self.row, column);
+        let below = sample(self.shape, self.samples, self.frame, below_row, column);
+        step(here, below)
+    }
+
+    // The steps of the row to the right, and down.
+    fn steps(self) -> u32
+        ensures { (result ≡ both_steps (self.entry.shape.width / 2) self.entry.down (green self.entry.shape self.entry.samples.now self.entry.frame) self.entry.row) × (result ≤ row_most) }
+    {
+        let mut sum = self.block_steps();
+        for place in (self.shape.width / 32 - 1) * 16..self.shape.width / 2 - 1 {
+            sum += self.word_steps(2 * place + GREEN) as u32;
+        }
+        sum + self.last_step() as u32
+    }
 }
 
 // A lane in 32 bits.
@@ -86,42 +120,6 @@ fn green_total(lanes: [u16; 16]) -> u32
     sum
 }
 
-// Both steps from each of a row's places, but for the last sixteen.
-fn block_steps(shape: Shape, samples: &[u16], frame: usize, row: usize, down: usize) -> u32
-    requires { RowsIn shape samples.now frame row down }
-    ensures { (result ≡ sum_n ((shape.width / 32 - 1) * 16) (place_steps (sample_at shape samples.now frame) row down)) × (result ≤ (shape.width / 32 - 1) * 524280) }
-{
-    let mut sum: u32 = 0;
-    for block in 0..shape.width / 32 - 1 {
-        let sums = lanes(shape, samples, frame, row, down, 32 * block);
-        sum += green_total(sums);
-    }
-    sum
-}
-
-// The step from the last place of a row, which has none to its right.
-fn last_step(shape: Shape, samples: &[u16], frame: usize, row: usize, down: usize) -> u16
-    requires { RowsIn shape samples.now frame row down }
-    ensures { result ≡ last_step (sample_at shape samples.now frame) (shape.width / 2) row down }
-{
-    let column = 2 * (shape.width / 2 - 1) + GREEN;
-    let here = sample(shape, samples, frame, 2 * row, column);
-    let below = sample(shape, samples, frame, 2 * (row + down), column);
-    step(here, below)
-}
-
-// The steps of a row of the plane to the right, and so many rows down.
-fn row_steps(shape: Shape, samples: &[u16], frame: usize, row: usize, down: usize) -> u32
-    requires { RowsIn shape samples.now frame row down }
-    ensures { (result ≡ both_steps (shape.width / 2) down (green shape samples.now frame) row) × (result ≤ row_most) }
-{
-    let mut sum = block_steps(shape, samples, frame, row, down);
-    for place in (shape.width / 32 - 1) * 16..shape.width / 2 - 1 {
-        sum += word_steps(shape, samples, frame, row, down, 2 * place + GREEN) as u32;
-    }
-    sum + last_step(shape, samples, frame, row, down) as u32
-}
-
 // The sharpness of a frame. The last row has none below: a step down by no row is 0.
 fn sharpness(shape: Shape, samples: &[u16], frame: usize) -> u64
     requires { record { sampled : Sampled shape samples.now; fit : SamplesFit shape samples.now; frame_in : frame < shape.count } }
@@ -130,20 +128,27 @@ fn sharpness(shape: Shape, samples: &[u16], frame: usize) -> u64
     let last = shape.height / 2 - 1;
     let mut sum: u64 = 0;
     for row in 0..last {
-        sum += row_steps(shape, samples, frame, row, 1) as u64;
+        let rows = RowPair {
+            shape,
+            samples,
+            frame,
+            row,
+            down: 1,
+        };
+        sum += rows.steps() as u64;
     }
-    sum + row_steps(shape, samples, frame, last, 0) as u64
+    let rows = RowPair {
+        shape,
+        samples,
+        frame,
+        row: last,
+        down: 0,
+    };
+    sum + rows.steps() as u64
 }
 
 // So many of the first frames are compared, where there are so many.
 const FIRST: usize = 3;
-
-// How many frames are compared.
-fn compared(count: usize) -> usize
-    ensures { result ≡ min count 3 }
-{
-    if count < FIRST { count } else { FIRST }
-}
 
 // The index of the sharpest of the first frames. A lone frame is not looked at.
 pub fn sharpest(shape: Shape, samples: &[u16]) -> usize
@@ -155,7 +160,7 @@ pub fn sharpest(shape: Shape, samples: &[u16]) -> usize
     }
     let mut best = 0;
     let mut most = sharpness(shape, samples, 0);
-    for frame in 1..compared(shape.count) {
+    for frame in 1..shape.count.min(FIRST) {
         let other = sharpness(shape, samples, frame);
         if most < other {
             most = other;

@@ -25,7 +25,7 @@ pub use Rattle.admit_call.specs.Admission.{BandTested, RunTested, tested_as}
 unfoldable pub use Rattle.admit_call.specs.OneFrame.{align_frame_refusal}
 pub use Rattle.admit_call.specs.Refusals.{merge_of, run_refusal, value_tests}
 unfoldable pub use Rattle.admit_call.specs.Refusals.{align_refusal, content_tests, merge_refusal, run_tests}
-pub use Rattle.admit_call.specs.declared.Tested.{Tested}
+pub use Rattle.admit_call.specs.Admission.{Tested}
 pub use Rattle.align_burst.specs.Aligned.{field_of, sum_of}
 unfoldable pub use Rattle.align_burst.specs.Aligned.{aligned_vectors, residual_sums}
 pub use Rattle.align_burst.specs.Rows.{count_of}

@@ -1,7 +1,7 @@
 // Align: a burst to its vectors.
 ghost use Rattle.stacker.specs.Calls.{Aligned};
 
-use crate::Alignment;
+use crate::{Alignment, accepted, refused};
 use admit_call::align_refusal;
 use geometry::Shape;
 use pipeline::clear;
@@ -16,13 +16,8 @@ pub fn align(
 ) -> Alignment
     ensures { Aligned shape reference samples.now vectors.old vectors.new work.old work.new result }
 {
-    let refusal = align_refusal(shape, reference, samples, &*vectors, &*work);
-    if refusal != 0 {
-        return Alignment {
-            refusal,
-            residuals: [0u64; 7],
-            rows: 0,
-        };
+    if let Err(refusal) = align_refusal(shape, reference, samples, &*vectors, &*work) {
+        return refused(refusal);
     }
     let totals = align_burst::burst::align_frames(
         shape,
@@ -32,10 +27,5 @@ pub fn align(
         &mut *work,
     );
     clear(&mut *work);
-    let residuals = totals.residuals;
-    Alignment {
-        refusal: 0,
-        residuals,
-        rows: totals.rows,
-    }
+    accepted(totals)
 }

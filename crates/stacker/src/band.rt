@@ -1,6 +1,7 @@
 // A band of the merged frame: a burst and lent vectors to the output's rows between two rows of tiles.
 ghost use Rattle.std.specs.Prelude.{◌≡◌};
 ghost use Rattle.stacker.specs.Prelude.{length, scene_of, merged};
+ghost use Rattle.refusals.specs.Refused.{answer_of};
 ghost use Rattle.stacker.specs.Bands.{band, Banded};
 ghost use Rattle.stacker.specs.BandReady.{BandLent};
 
@@ -9,6 +10,7 @@ use geometry::Shape;
 use noise::Noise;
 use pipeline::clear;
 use recipe::{Merge, Tuning};
+use refusals::Refusal;
 
 // The rows of a band that has passed the tests. A row of tiles has `side` rows of the frame.
 fn band_rows(
@@ -41,23 +43,20 @@ pub fn merge_band(
     vectors: &[i32],
     output: &mut [u16],
     work: &mut [i64],
-) -> u64
-    ensures { Banded shape reference noise tuning top rows samples.now vectors.now output.old output.new work.old work.new result }
+) -> Result<(), Refusal>
+    ensures { Banded shape reference noise tuning top rows samples.now vectors.now output.old output.new work.old work.new (answer_of result) }
 {
-    let tested = band_refusal(
+    let levels = band_refusal(
         shape, reference, noise, tuning, top, rows, samples, vectors, &*output, &*work,
-    );
-    if tested.refusal != 0 {
-        return tested.refusal;
-    }
+    )?;
     let m = Merge {
         shape,
         reference,
-        shot: tested.shot,
-        read: tested.read,
+        shot: levels.shot,
+        read: levels.read,
         tuning,
     };
     band_rows(m, top, rows, samples, vectors, &mut *output, &mut *work);
     clear(&mut *work);
-    0
+    Ok(())
 }

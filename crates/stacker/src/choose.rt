@@ -1,7 +1,7 @@
 // Run with a reference that it chooses: the sharpest of the first frames.
 ghost use Rattle.stacker.specs.Choosing.{Chosen};
 
-use crate::{Alignment, Choice};
+use crate::{Choice, accepted, refused};
 use admit_call::run_refusal;
 use geometry::Shape;
 use noise::Noise;
@@ -24,33 +24,26 @@ pub fn run_sharpest(
     let tested = run_refusal(
         shape, 0, noise, tuning, samples, &*vectors, &*output, &*work,
     );
-    let refusal = tested.refusal;
-    if refusal != 0 {
-        return Choice {
-            alignment: Alignment {
-                refusal,
-                residuals: [0u64; 7],
-                rows: 0,
-            },
-            reference: 0,
-        };
-    }
+    let levels = match tested {
+        Ok(levels) => levels,
+        Err(refusal) => {
+            return Choice {
+                alignment: refused(refusal),
+                reference: 0,
+            };
+        }
+    };
     let reference = sharpest(shape, samples);
     let m = Merge {
         shape,
         reference,
-        shot: tested.shot,
-        read: tested.read,
+        shot: levels.shot,
+        read: levels.read,
         tuning,
     };
     let totals = run_levels(m, samples, &mut *vectors, &mut *output, &mut *work);
-    let residuals = totals.residuals;
     Choice {
-        alignment: Alignment {
-            refusal: 0,
-            residuals,
-            rows: totals.rows,
-        },
+        alignment: accepted(totals),
         reference: reference as u64,
     }
 }

@@ -1,4 +1,5 @@
 // Merge: a burst and lent vectors to the output.
+ghost use Rattle.refusals.specs.Refused.{answer_of};
 ghost use Rattle.stacker.specs.Calls.{Merged};
 
 use admit_call::run_refusal;
@@ -6,6 +7,7 @@ use geometry::Shape;
 use noise::Noise;
 use pipeline::clear;
 use recipe::{Merge, Tuning};
+use refusals::Refusal;
 
 // The merged frame of a burst, by lent vectors.
 pub fn merge(
@@ -17,27 +19,21 @@ pub fn merge(
     vectors: &[i32],
     output: &mut [u16],
     work: &mut [i64],
-) -> u64
-    ensures { Merged shape reference noise tuning samples.now vectors.now output.old output.new work.old work.new result }
+) -> Result<(), Refusal>
+    ensures { Merged shape reference noise tuning samples.now vectors.now output.old output.new work.old work.new (answer_of result) }
 {
-    let tested = run_refusal(
+    let levels = run_refusal(
         shape, reference, noise, tuning, samples, vectors, &*output, &*work,
-    );
-    if tested.refusal != 0 {
-        return tested.refusal;
-    }
-    let lent = admit_value::vector_refusal(vectors);
-    if lent != 0 {
-        return lent;
-    }
+    )?;
+    admit_value::vector_refusal(vectors)?;
     let m = Merge {
         shape,
         reference,
-        shot: tested.shot,
-        read: tested.read,
+        shot: levels.shot,
+        read: levels.read,
         tuning,
     };
     merge_frame::merge_frames(m, samples, vectors, &mut *output, &mut *work);
     clear(&mut *work);
-    0
+    Ok(())
 }

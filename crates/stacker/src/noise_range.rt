@@ -1,5 +1,6 @@
 // Range: a burst, lent vectors and a noise that is known only between two curves to a low and a high frame.
 ghost use Rattle.std.specs.Prelude.{◌≡◌};
+ghost use Rattle.refusals.specs.Refused.{answer_of};
 ghost use Rattle.stacker.specs.Prelude.{true, length, merge_of};
 ghost use Rattle.range_frame.specs.Ready.{FramesRanged};
 ghost use Rattle.stacker.specs.Ranged.{Ranged};
@@ -13,47 +14,26 @@ use pipeline::clear;
 use range_frame::range_frames;
 use range_tiles::Upper;
 use recipe::{Merge, Tuning};
+use refusals::Refusal;
 
 // A merge with the levels of a noise, which are 0 where its tests refuse it.
 fn merge_of(shape: Shape, reference: usize, noise: Noise, tuning: Tuning) -> Merge
     ensures { result ≡ merge_of shape reference noise tuning }
 {
-    match levels_of(noise) {
-        Levels::Found { shot, read } => Merge {
-            shape,
-            reference,
-            shot,
-            read,
-            tuning,
-        },
-        Levels::Refused(_) => Merge {
-            shape,
-            reference,
-            shot: 0,
-            read: 0,
-            tuning,
-        },
+    let levels = levels_of(noise).unwrap_or(Levels { shot: 0, read: 0 });
+    Merge {
+        shape,
+        reference,
+        shot: levels.shot,
+        read: levels.read,
+        tuning,
     }
 }
 
 fn same_levels(m: Merge, upper: Upper) -> bool
     ensures { result ≡ true → (m.shot ≡ upper.shot) × (m.read ≡ upper.read) }
 {
-    if m.shot != upper.shot {
-        return false;
-    }
-    m.read == upper.read
-}
-
-fn copy(frame: &[u16], over: &mut [u16])
-    requires { length over.old ≡ length frame.now }
-    ensures { over.new ≡ frame.now }
-{
-    let mut i = 0;
-    while i < over.len() {
-        over[i] = frame[i];
-        i += 1;
-    }
+    m.shot == upper.shot && m.read == upper.read
 }
 
 // Both frames, of input that has passed the tests. Where the levels are equal both are the merge, which is made once.
@@ -71,7 +51,7 @@ fn frames(
 {
     if same_levels(m, upper) {
         merge_frames(m, samples, vectors, &mut *low, &mut *work);
-        copy(&*low, &mut *high);
+        high.copy_from_slice(&*low);
         return;
     }
     range_frames(
@@ -91,15 +71,12 @@ pub fn range(
     low: &mut [u16],
     high: &mut [u16],
     work: &mut [i64],
-) -> u64
-    ensures { Ranged shape reference lower upper tuning samples.now vectors.now low.old low.new high.old high.new work.old work.new result }
+) -> Result<(), Refusal>
+    ensures { Ranged shape reference lower upper tuning samples.now vectors.now low.old low.new high.old high.new work.old work.new (answer_of result) }
 {
-    let refusal = range_refusal(
+    range_refusal(
         shape, reference, lower, upper, tuning, samples, vectors, &*low, &*high, &*work,
-    );
-    if refusal != 0 {
-        return refusal;
-    }
+    )?;
     let m = merge_of(shape, reference, lower, tuning);
     let raised = merge_of(shape, reference, upper, tuning);
     let top = Upper {
@@ -108,5 +85,5 @@ pub fn range(
     };
     frames(m, top, samples, vectors, &mut *low, &mut *high, &mut *work);
     clear(&mut *work);
-    0
+    Ok(())
 }

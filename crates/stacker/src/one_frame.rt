@@ -7,6 +7,7 @@ use geometry::Shape;
 use pipeline::clear;
 
 // What it answers: the refusal's number, or 0, that frame's sum of finest residuals, and how many tile rows were summed for it.
+// A number and not an error, since C gets it by value.
 #[repr(C)]
 #[derive(Clone, Copy)]
 pub struct FrameAlignment {
@@ -26,10 +27,10 @@ pub fn align_frame(
 ) -> FrameAlignment
     ensures { FrameAligned shape reference other samples.now vectors.old vectors.new work.old work.new result }
 {
-    let refusal = align_frame_refusal(shape, reference, other, samples, &*vectors, &*work);
-    if refusal != 0 {
+    let tested = align_frame_refusal(shape, reference, other, samples, &*vectors, &*work);
+    if let Err(refusal) = tested {
         return FrameAlignment {
-            refusal,
+            refusal: refusal.number(),
             residual: 0,
             rows: 0,
         };

@@ -1,10 +1,12 @@
 // Residuals: a burst and lent vectors to the finest residual of each tile.
+ghost use Rattle.refusals.specs.Refused.{answer_of};
 ghost use Rattle.stacker.specs.Residuals.{ResidualsFound};
 
 use admit_call::residual_refusal;
 use align_measure::measure_frames;
 use geometry::Shape;
 use pipeline::clear;
+use refusals::Refusal;
 
 // The residual of every tile of every other frame at its lent vector, in the order of the vectors.
 pub fn residuals(
@@ -14,13 +16,10 @@ pub fn residuals(
     vectors: &[i32],
     residuals: &mut [u64],
     work: &mut [i64],
-) -> u64
-    ensures { ResidualsFound shape reference samples.now vectors.now residuals.old residuals.new work.old work.new result }
+) -> Result<(), Refusal>
+    ensures { ResidualsFound shape reference samples.now vectors.now residuals.old residuals.new work.old work.new (answer_of result) }
 {
-    let refusal = residual_refusal(shape, reference, samples, vectors, &*residuals, &*work);
-    if refusal != 0 {
-        return refusal;
-    }
+    residual_refusal(shape, reference, samples, vectors, &*residuals, &*work)?;
     measure_frames(
         shape,
         reference,
@@ -30,5 +29,5 @@ pub fn residuals(
         &mut *work,
     );
     clear(&mut *work);
-    0
+    Ok(())
 }

@@ -1,7 +1,7 @@
 // Run: align, then merge.
 ghost use Rattle.stacker.specs.Calls.{Ran};
 
-use crate::Alignment;
+use crate::{Alignment, accepted, refused};
 use admit_call::run_refusal;
 use geometry::Shape;
 use noise::Noise;
@@ -24,26 +24,17 @@ pub fn run(
     let tested = run_refusal(
         shape, reference, noise, tuning, samples, &*vectors, &*output, &*work,
     );
-    let refusal = tested.refusal;
-    if refusal != 0 {
-        return Alignment {
-            refusal,
-            residuals: [0u64; 7],
-            rows: 0,
-        };
-    }
+    let levels = match tested {
+        Ok(levels) => levels,
+        Err(refusal) => return refused(refusal),
+    };
     let m = Merge {
         shape,
         reference,
-        shot: tested.shot,
-        read: tested.read,
+        shot: levels.shot,
+        read: levels.read,
         tuning,
     };
     let totals = run_levels(m, samples, &mut *vectors, &mut *output, &mut *work);
-    let residuals = totals.residuals;
-    Alignment {
-        refusal: 0,
-        residuals,
-        rows: totals.rows,
-    }
+    accepted(totals)
 }

@@ -9,8 +9,12 @@ use borrow.Author.Tests.{le-leb, lt-leb, ne_eqb, eqb-true}
 use Rattle.refusals.specs.Tests.{first}
 use Rattle.refusals.specs.TestLaws.{lone}
 use Rattle.geometry.specs.Shape.{side_allowed}
-use Rattle.noise.specs.declared.Levels.TheVariants.{Found, Refused}
-use Rattle.noise.specs.Levels.{strength_refusal}
+use Rattle.std.specs.Prelude.{Result, Ok, Err}
+use Rattle.std.specs.Result.{is_err}
+use Rattle.refusals.specs.declared.Refusal.{Refusal}
+use Rattle.refusals.specs.Refused as code
+use Rattle.refusals.specs.RefusedLaws.{some-number}
+use Rattle.noise.specs.Levels.{Found, Refused, strength_refusal}
 use Rattle.recipe.specs.Sides.{side_of}
 use Rattle.recipe.specs.NoiseNumber.{noise_number}
 use Rattle.noise.specs.NoiseNumberLaws.{noise-number-none}
@@ -41,6 +45,16 @@ module _ (ls lr strength root side : ℕ) where
     pub numbered : side_allowed side ≡ true → root ≤ 4095 * side → noise_number (side_of side) strength ls lr root ≡ noise_answer (Found ls lr) strength root side
     unfolding noise_answer first
     numbered h l = rw (e, h, le-leb _ _ l)
+
+-- a test's number, by whether it refused
+module _ {number : ℕ} where
+  pub test-refused : (test : Result (Unit {0}) Refusal) → code.answer_of test ≡ number → is_err test ≡ true → number ≡ 0 → ⊥
+  test-refused (Ok value) e h z = absurd (true≢false (sym h))
+  test-refused (Err refusal) e h z = let some = some-number refusal in absurd (omega (arith, e, z, some))
+
+  pub test-passed : (test : Result (Unit {0}) Refusal) → code.answer_of test ≡ number → is_err test ≡ false → number ≡ 0
+  test-passed (Ok value) e h = sym e
+  test-passed (Err refusal) e h = absurd (true≢false h)
 
 -- a side that is known is at most 32
 pub side-most : (side : ℕ) → side_allowed side ≡ true → side ≤ 32

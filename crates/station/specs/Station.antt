@@ -2,8 +2,7 @@
 use Rattle.std.specs.Prelude.{◌&&◌, cond, [], ◌∷◌, ℕ, ◌*◌, eqb, leb, Float}
 use Rattle.refusals.specs.Tests.{first}
 use Rattle.noise.specs.declared.Noise.TheVariants.{Measured}
-use Rattle.noise.specs.declared.Levels.{Levels}
-use Rattle.noise.specs.Levels.{levels_of, refusal_of, shot_level, read_level, strength_refusal}
+use Rattle.noise.specs.Levels.{Levels, levels_of, refusal_of, shot_level, read_level, strength_refusal}
 use Rattle.geometry.specs.Shape.{side_allowed}
 use Rattle.recipe.specs.Sides.{side_of}
 use Rattle.recipe.specs.NoiseNumber.{noise_number}

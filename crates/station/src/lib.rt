@@ -7,7 +7,7 @@ ghost use Rattle.file_burst.specs.Reading.{file_check};
 ghost use Rattle.station.specs.Station.{noise_question};
 
 use geometry::SAMPLE_MOST;
-use noise::{Curve, Levels, Noise};
+use noise::{Curve, Noise};
 
 // The length that refusal `number` tests, from 4 to 7; else, or where refusal 1, 2, 22 or 23 would stand, 0.
 #[unsafe(no_mangle)]
@@ -29,22 +29,20 @@ pub extern "C" fn station_length(
 pub extern "C" fn station_noise(shot: f64, read: f64, strength: u64, root: u64, side: u64) -> u64
     ensures { result ≡ noise_question shot read strength root side }
 {
-    match noise::levels_of(Noise::Measured(Curve { shot, read })) {
-        Levels::Refused(_) => 0,
-        Levels::Found { shot: ls, read: lr } => {
-            if noise::strength_refusal(strength) != 0 {
-                return 0;
-            }
-            if !admit_size::side_allowed(side as usize) {
-                return 0;
-            }
-            // The root of a tile whose samples are all 4095 is that times its side.
-            if SAMPLE_MOST as u64 * side < root {
-                return 0;
-            }
-            noise::side_noise_number(side as usize, strength, ls, lr, root)
-        }
+    let Ok(levels) = noise::levels_of(Noise::Measured(Curve { shot, read })) else {
+        return 0;
+    };
+    if noise::strength_refusal(strength).is_err() {
+        return 0;
     }
+    if !admit_size::side_allowed(side as usize) {
+        return 0;
+    }
+    // The root of a tile whose samples are all 4095 is that times its side.
+    if SAMPLE_MOST as u64 * side < root {
+        return 0;
+    }
+    noise::side_noise_number(side as usize, strength, levels.shot, levels.read, root)
 }
 
 // The number of the refusal with which reading a burst file of these bytes would end, the test of the lent samples' length apart; or 0.

@@ -7,11 +7,15 @@ use Prim.Native.Nat.{zero-le}
 use Rattle.floats.specs.Wholes.{Whole, negative, whole_of, whole-product, whole_sum}
 use Rattle.floats.specs.QuotientLaws.{slightly_more, certain, quotient-again}
 use Rattle.floats.specs.ProductLaws.{product-away}
+use Rattle.algebra.specs.Prelude.{cond, eqb}
+use Rattle.geometry.specs.Fits.{TileSide}
 use Rattle.recipe.specs.Side.{Side}
+use Rattle.recipe.specs.Sides.{side_of}
+use Rattle.recipe.specs.SideLaws.{by-table}
 use Rattle.recipe.specs.Tables32.{side32}
 use Rattle.tile_spectrum.specs.RoundingLaws.{away-most}
 use Rattle.tile_spectrum.specs.WienerLaws.{wiener-is}
-use Rattle.tile_bin.specs.Doubles.{nearest_whole, power_in, quantized_by, quotients_by, gains_by, SureBy, real_gain_by}
+use Rattle.tile_bin.specs.Doubles.{bits_of, nearest_whole, power_in, quantized_by, quotients_by, gains_by, SureBy, real_gain_by}
 
 -- ---- Q
 
@@ -30,6 +34,10 @@ quanta16 = record { quantum_is = refl; k_above = lit< tt; k_most = lit≤ tt; be
 pub quanta32 : Quanta side32 26 long_bin_most
 unfolding side32
 quanta32 = record { quantum_is = refl; k_above = lit< tt; k_most = lit≤ tt; below = lit< tt; parts = lit≤ tt }
+
+-- those of a side
+pub quanta-at : {n : ℕ} → TileSide n → Quanta (side_of n) (bits_of n) (cond (eqb n 32) long_bin_most bin_most)
+quanta-at t = by-table t (λ n s. Quanta s (bits_of n) (cond (eqb n 32) long_bin_most bin_most)) quanta16 quanta32
 
 module _ {s : Side} {k bins : ℕ} (f : Quanta s k bins) (b : ℤ) (most : nat_abs b ≤ bins) where
   pub quantized-is : quantized_by k (of_int binary64 b) ≡ of_int binary64 (quantized s b)

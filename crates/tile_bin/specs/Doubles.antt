@@ -1,6 +1,7 @@
 -- Inside the crates of the merge: the Wiener step in double, as the code works it out. Each operation is rounded once.
 use Rattle.std.specs.Prelude.{◌≡◌, ◌∷◌}
 use Rattle.tile_bin.specs.Prelude.{true, List, [], ℕ, get_or, ℤ, pos, Float, nan, binary64, add, sub, mul, div, of_int, to_signed, middle, wiener}
+use Rattle.algebra.specs.Prelude.{cond, eqb}
 use Rattle.floats.specs.ProductLaws.{fraction}
 use Rattle.floats.specs.QuotientLaws.{certain}
 
@@ -52,25 +53,29 @@ exact_gains_by k noise a b =
     let r = whole_quantized_by k b in
     of_int binary64 (wiener noise q r) ∷ of_int binary64 (wiener noise r q) ∷ []
 
--- ---- for side 16
+-- ---- at side n, 32 or else 16
 
-abbrev pub quantized_in : Float → Float
-quantized_in = quantized_by 24
+-- the quantum is 2^24, and 2^26 at side 32
+abbrev pub bits_of : ℕ → ℕ
+bits_of n = cond (eqb n 32) 26 24
 
-abbrev pub quotients_in : (v w a b : Float) → List Float
-quotients_in = quotients_by 24
+abbrev pub quantized_in : (n : ℕ) → Float → Float
+quantized_in n = quantized_by (bits_of n)
 
-abbrev pub gains_in : (v w a b : Float) → List Float
-gains_in = gains_by 24
+abbrev pub quotients_in : (n : ℕ) (v w a b : Float) → List Float
+quotients_in n = quotients_by (bits_of n)
 
-abbrev pub Sure : (v w a b : Float) → Type 0
-Sure = SureBy 24
+abbrev pub gains_in : (n : ℕ) (v w a b : Float) → List Float
+gains_in n = gains_by (bits_of n)
 
-abbrev pub real_gain_in : (v w a : Float) → Float
-real_gain_in = real_gain_by 24
+abbrev pub Sure : (n : ℕ) (v w a b : Float) → Type 0
+Sure n = SureBy (bits_of n)
 
-abbrev pub whole_quantized : Float → ℤ
-whole_quantized = whole_quantized_by 24
+abbrev pub real_gain_in : (n : ℕ) (v w a : Float) → Float
+real_gain_in n = real_gain_by (bits_of n)
 
-abbrev pub exact_gains_in : (noise : ℕ) (a b : Float) → List Float
-exact_gains_in = exact_gains_by 24
+abbrev pub whole_quantized : (n : ℕ) → Float → ℤ
+whole_quantized n = whole_quantized_by (bits_of n)
+
+abbrev pub exact_gains_in : (n noise : ℕ) (a b : Float) → List Float
+exact_gains_in n = exact_gains_by (bits_of n)

@@ -3,6 +3,5 @@
 
 pub mod copies;
 pub mod double;
-pub mod long;
 pub mod parts;
 pub mod quiet;

@@ -1,9 +1,13 @@
 // The transform of a line of sixteen differences in halfcomplex form, folded in halves, in numbers narrow enough that the compiler takes several lines at
 // once: the folds in 16 bits, the products in 32. The tables are exactly symmetric, so each fold is exact: C(k+8) = −C(k), C(8−k) = −C(k), S(k) = C(k+12)
 // and C(4) = 0.
-ghost use Rattle.std.specs.Prelude.{◌≡◌, ◌∷◌, ◌+◌, ◌*◌, ◌/◌, ◌%◌, ◌<◌};
-ghost use Rattle.tile_lines.specs.Whole.Prelude.{cond, [], eqb, pos, get_or, tab, halfcomplex, sum_at, difference_at, folded, difference_most, difference_fold_most, fold_again_most};
+ghost use Rattle.std.specs.Prelude.{◌≡◌, ◌∷◌, ◌+◌, ◌*◌, ◌<◌, ◌+ℤ◌, ◌-ℤ◌};
+ghost use Rattle.recipe.specs.Side.{Side};
+ghost use Rattle.tile_spectrum.specs.Lines.Fold.{sum_of, difference_of};
+ghost use Rattle.tile_lines.specs.Whole.Prelude.{[], pos, get_or, tab, halfcomplex, folded, difference_most, difference_fold_most, fold_again_most};
 ghost use Rattle.tile_spectrum.specs.Lines.Lines.{LineMost};
+
+use tile_spectrum::places::interleaved;
 
 // C(0) to C(3)
 const C0: i32 = 16384;
@@ -14,28 +18,30 @@ const C2: i32 = 11585;
 
 const C3: i32 = 6270;
 
-// The sums of numbers half a line apart, for the even places.
-fn sums(x: &[i16; 16]) -> [i16; 8]
-    requires { LineMost difference_most x.now }
-    ensures { result ≡ tab 8 (sum_at (λ n. get_or x.now n (pos 0))) }
+// The sums of numbers half a line apart, for the even places, of a line of any length.
+pub fn sums<const LEN: usize, const HALF: usize>(x: &[i16; LEN]) -> [i16; HALF]
+    requires { (LEN ≡ 2 * HALF) × (LineMost difference_fold_most x.now) }
+    ensures { (s : Side) → s.half ≡ HALF → result ≡ tab HALF (sum_of s (λ n. get_or x.now n (pos 0))) }
 {
-    let mut r = [0i16; 8];
-    for i in 0..8 {
-        r[i] = x[i] + x[i + 8];
-    }
-    r
+    std::array::from_fn(
+        |i: usize| -> i16
+            requires { (i < HALF) × (LEN ≡ 2 * HALF) × (LineMost difference_fold_most x.now) }
+            ensures { result ≡ get_or x.entry.now i (pos 0) +ℤ get_or x.entry.now (i + HALF) (pos 0) }
+        { x[i] + x[i + HALF] },
+    )
 }
 
 // Their differences, for the odd places.
-fn differences(x: &[i16; 16]) -> [i16; 8]
-    requires { LineMost difference_most x.now }
-    ensures { result ≡ tab 8 (difference_at (λ n. get_or x.now n (pos 0))) }
+pub fn differences<const LEN: usize, const HALF: usize>(x: &[i16; LEN]) -> [i16; HALF]
+    requires { (LEN ≡ 2 * HALF) × (LineMost difference_fold_most x.now) }
+    ensures { (s : Side) → s.half ≡ HALF → result ≡ tab HALF (difference_of s (λ n. get_or x.now n (pos 0))) }
 {
-    let mut r = [0i16; 8];
-    for i in 0..8 {
-        r[i] = x[i] - x[i + 8];
-    }
-    r
+    std::array::from_fn(
+        |i: usize| -> i16
+            requires { (i < HALF) × (LEN ≡ 2 * HALF) × (LineMost difference_fold_most x.now) }
+            ensures { result ≡ get_or x.entry.now i (pos 0) -ℤ get_or x.entry.now (i + HALF) (pos 0) }
+        { x[i] - x[i + HALF] },
+    )
 }
 
 // The even places, from the sums. Their cosines lie an even number of steps apart, so C(k+8) = −C(k) folds the sums again, four numbers apart. p ∓ q is a
@@ -101,7 +107,7 @@ fn even_places(x: &[i16; 16]) -> [i32; 8]
     requires { LineMost difference_most x.now }
     ensures { result ≡ tab 8 (λ i. halfcomplex (λ n. get_or x.now n (pos 0)) (2 * i)) }
 {
-    let s = sums(x);
+    let s: [i16; 8] = sums(x);
     even(s[0], s[1], s[2], s[3], s[4], s[5], s[6], s[7])
 }
 
@@ -110,19 +116,8 @@ fn odd_places(x: &[i16; 16]) -> [i32; 8]
     requires { LineMost difference_most x.now }
     ensures { result ≡ tab 8 (λ i. halfcomplex (λ n. get_or x.now n (pos 0)) (2 * i + 1)) }
 {
-    let t = differences(x);
+    let t: [i16; 8] = differences(x);
     odd(t[0], t[1], t[2], t[3], t[4], t[5], t[6], t[7])
-}
-
-// Place k, from the even places and the odd ones.
-fn place(e: &[i32; 8], o: &[i32; 8], k: usize) -> i32
-    requires { k < 16 }
-    ensures { result ≡ cond (eqb (k % 2) 0) (get_or e.now (k / 2) (pos 0)) (get_or o.now (k / 2) (pos 0)) }
-{
-    if k % 2 == 0 {
-        return e[k / 2];
-    }
-    o[k / 2]
 }
 
 // The transform of the line x: the real parts of its numbers 0..8, then the imaginary parts of 1..7.
@@ -132,9 +127,5 @@ pub fn halfcomplex(x: &[i16; 16]) -> [i32; 16]
 {
     let e = even_places(x);
     let o = odd_places(x);
-    let mut r = [0i32; 16];
-    for k in 0..16 {
-        r[k] = place(&e, &o, k);
-    }
-    r
+    interleaved(&e, &o)
 }

@@ -2,6 +2,7 @@
 // number n to number n + 16 the even places' sum stays and the odd places' sum changes its sign. The even places are summed as a line of sixteen, by `tile_lines::back`.
 // No number on the way is above 2^53, so each is exact; where noise is neither low nor middle, half of a row's sum is added up in 64 bits from four such sums. Number n of row p
 // stands at 2n + p.
+// Its kernels are straight-line code, and that of thirty-two numbers is no case of that of sixteen.
 #![tactic(auto)]
 
 ghost use Rattle.std.specs.Prelude.{◌≡◌, ◌+◌, ◌*◌, ◌/◌, ◌%◌, ◌<◌};

@@ -1,6 +1,7 @@
 // The transforms of two lines of thirty-two numbers side by side, folded in halves, in double: no number on the way is above 2^53, so each is exact. The even
 // places are those of the sums' lines of sixteen, with the kernels of `tile_lines::double`; the odd places have a kernel of their own. Number n of line p stands at
 // 2n + p.
+// Its kernels are straight-line code, and that of thirty-two numbers is no case of that of sixteen.
 #![tactic(auto)]
 
 ghost use Rattle.std.specs.Prelude.{◌≡◌, ◌+◌, ◌*◌, ◌/◌, ◌%◌, ◌<◌, ◌+ℤ◌, ◌-ℤ◌};

@@ -1,12 +1,16 @@
 // The transform of a line of thirty-two differences in halfcomplex form, folded in halves, in numbers narrow enough that the compiler takes several lines at once:
 // the folds in 16 bits, the products in 32. The even places are those of the sums' line of sixteen. Its odd places, and what the even ones of the differences add to
 // the odd places of the whole line, have the kernel of `tile_lines::whole`.
+// Its kernels are straight-line code, and that of thirty-two numbers is no case of that of sixteen.
 #![tactic(auto)]
 
 ghost use Rattle.std.specs.Prelude.{◌≡◌, ◌∷◌, ◌+◌, ◌*◌};
-ghost use Rattle.tile_lines32_whole.specs.Prelude.{[], ℕ, ℤ, pos, get_or, tab, side16, side32, halfcomplex_of, sum_of, difference_of, folded_of, difference_most, difference_fold_most, fold_again_most};
+ghost use Rattle.tile_lines32_whole.specs.Prelude.{[], ℕ, ℤ, pos, get_or, tab, side16, side32, halfcomplex_of, folded_of, difference_most, difference_fold_most, fold_again_most};
 ghost use Rattle.tile_spectrum.specs.Lines.Lines.{LineMost};
 ghost use Rattle.tile_lines32_whole.specs.Parts.{odd_part, InParts, part_most};
+
+use tile_lines::whole::{differences, odd, sums};
+use tile_spectrum::places::interleaved;
 
 // C(0), C(1), C(3), C(4), C(5) and C(7)
 const C0: i32 = 16384;
@@ -20,54 +24,6 @@ const C4: i32 = 11585;
 const C5: i32 = 9102;
 
 const C7: i32 = 3196;
-
-// The sums of numbers half a line apart, for the even places.
-fn sums(x: &[i16; 32]) -> [i16; 16]
-    requires { LineMost difference_most x.now }
-    ensures { result ≡ tab 16 (sum_of side32 (λ n. get_or x.now n (pos 0))) }
-{
-    let mut r = [0i16; 16];
-    for i in 0..16 {
-        r[i] = x[i] + x[i + 16];
-    }
-    r
-}
-
-// Their differences, for the odd places.
-fn differences(x: &[i16; 32]) -> [i16; 16]
-    requires { LineMost difference_most x.now }
-    ensures { result ≡ tab 16 (difference_of side32 (λ n. get_or x.now n (pos 0))) }
-{
-    let mut r = [0i16; 16];
-    for i in 0..16 {
-        r[i] = x[i] - x[i + 16];
-    }
-    r
-}
-
-// The sums of the sums' line of sixteen, again half a line apart.
-fn sums_again(x: &[i16; 16]) -> [i16; 8]
-    requires { LineMost difference_fold_most x.now }
-    ensures { result ≡ tab 8 (sum_of side16 (λ n. get_or x.now n (pos 0))) }
-{
-    let mut r = [0i16; 8];
-    for i in 0..8 {
-        r[i] = x[i] + x[i + 8];
-    }
-    r
-}
-
-// And their differences.
-fn differences_again(x: &[i16; 16]) -> [i16; 8]
-    requires { LineMost difference_fold_most x.now }
-    ensures { result ≡ tab 8 (difference_of side16 (λ n. get_or x.now n (pos 0))) }
-{
-    let mut r = [0i16; 8];
-    for i in 0..8 {
-        r[i] = x[i] - x[i + 8];
-    }
-    r
-}
 
 // The even places of a line of sixteen, from the sums of its sums. Eight of the differences would not fit 16 bits, so that the products with C(4) are taken apart.
 fn even(s0: i16, s1: i16, s2: i16, s3: i16, s4: i16, s5: i16, s6: i16, s7: i16) -> [i32; 8]
@@ -153,7 +109,7 @@ fn first_places(s: &[i16; 16]) -> [i32; 8]
     requires { LineMost difference_fold_most s.now }
     ensures { result ≡ tab 8 (λ i. halfcomplex_of side16 (λ n. get_or s.now n (pos 0)) (2 * i)) }
 {
-    let a = sums_again(s);
+    let a: [i16; 8] = sums(s);
     even(a[0], a[1], a[2], a[3], a[4], a[5], a[6], a[7])
 }
 
@@ -162,8 +118,8 @@ fn second_places(s: &[i16; 16]) -> [i32; 8]
     requires { LineMost difference_fold_most s.now }
     ensures { result ≡ tab 8 (λ i. halfcomplex_of side16 (λ n. get_or s.now n (pos 0)) (2 * i + 1)) }
 {
-    let b = differences_again(s);
-    tile_lines::whole::odd(b[0], b[1], b[2], b[3], b[4], b[5], b[6], b[7])
+    let b: [i16; 8] = differences(s);
+    odd(b[0], b[1], b[2], b[3], b[4], b[5], b[6], b[7])
 }
 
 // The places of a line of sixteen sums.
@@ -173,12 +129,7 @@ fn even_places(s: &[i16; 16]) -> [i32; 16]
 {
     let e = first_places(s);
     let o = second_places(s);
-    let mut r = [0i32; 16];
-    for k in 0..8 {
-        r[2 * k] = e[k];
-        r[2 * k + 1] = o[k];
-    }
-    r
+    interleaved(&e, &o)
 }
 
 // The odd places of the line x.
@@ -186,8 +137,8 @@ fn odd_places(x: &[i16; 32]) -> [i32; 16]
     requires { LineMost difference_most x.now }
     ensures { result ≡ tab 16 (λ i. halfcomplex_of side32 (λ n. get_or x.now n (pos 0)) (2 * i + 1)) }
 {
-    let t = differences(x);
-    let e = tile_lines::whole::odd(t[0], t[2], t[4], t[6], t[8], t[10], t[12], t[14]);
+    let t: [i16; 16] = differences(x);
+    let e = odd(t[0], t[2], t[4], t[6], t[8], t[10], t[12], t[14]);
     let o = odd_part(t[1], t[3], t[5], t[7], t[9], t[11], t[13], t[15]);
     joined(&e, &o)
 }
@@ -197,9 +148,10 @@ pub fn halfcomplex(x: &[i16; 32]) -> [i32; 32]
     requires { LineMost difference_most x.now }
     ensures { result ≡ tab 32 (halfcomplex_of side32 (λ n. get_or x.now n (pos 0))) }
 {
-    let s = sums(x);
+    let s: [i16; 16] = sums(x);
     let e = even_places(&s);
     let o = odd_places(x);
+    // stored by twos: with `interleaved` at this length the compiler keeps a loop, and takes one line at a time, 1.2 times as long for a pair of tiles
     let mut r = [0i32; 32];
     for k in 0..16 {
         r[2 * k] = e[k];

@@ -1,28 +1,8 @@
 // The first pass of the inverse, down the columns of a pair of folded spectra, in place.
-ghost use Rattle.std.specs.Prelude.{◌≡◌, ◌<◌};
-ghost use Rattle.tile_pair.specs.Prelude.{false, cond, eqb, get_or, tab, grid, cell, backward, fold_most, Paired, InDouble, doubles, nan};
+ghost use Rattle.std.specs.Prelude.{◌≡◌};
+ghost use Rattle.tile_pair.specs.Prelude.{false, backward, fold_most, Paired, InDouble, doubles, nan};
 
-// Column l of a pair, as a line.
-fn column(g: &[[f64; 32]; 16], l: usize) -> [f64; 16]
-    requires { l < 32 }
-    ensures { result ≡ tab 16 (λ y. cell nan g.now y l) }
-{
-    let mut r = [0.0f64; 16];
-    for y in 0..16 {
-        r[y] = g[y][l];
-    }
-    r
-}
-
-// Column l of a pair is replaced by z.
-fn set_column(t: &mut [[f64; 32]; 16], l: usize, z: &[f64; 16])
-    requires { (l < 32) × (Paired nan t.old) }
-    ensures { t.new ≡ grid 16 32 (λ k m. cond (eqb m l) (get_or z.now k nan) (cell nan t.old k m)) }
-{
-    for k in 0..16 {
-        t[k][l] = z[k];
-    }
-}
+use tile_spectrum::columns::{column, set_column};
 
 // g: the sums back down each column.
 pub fn back(g: &mut [[f64; 32]; 16])

@@ -10,7 +10,7 @@ ghost use Rattle.std.specs.Prelude.{◌≡◌, ◌^◌, ◌≤◌};
 ghost use Rattle.tile_pair.specs.Prelude.{pos, nan, side16, difference_most, fold_most, TileMost, Paired, InDouble, BinnedPair, GainsOf, by_columns, plane_bins, pair_gains, InverseAdded, correction_in, added, doubles};
 ghost use Rattle.tile_spectrum.specs.Magnitudes.{noise_most};
 
-use tile_bin::quiet::low_noise;
+use tile_bin::quiet::{LOW_NOISE, both_most};
 use tile_wiener::filter;
 use tile_wiener_exact::filter_exactly;
 
@@ -88,7 +88,7 @@ pub fn add_corrections(d: &[[i16; 32]; 16], first: u64, second: u64, sum: &mut [
     requires { record { differences : TileMost difference_most d.now; first_most : first ≤ noise_most; second_most : second ≤ noise_most; sums_most : TileMost (2 ^ 40) sum.old; paired : Paired (pos 0) sum.old } }
     ensures { sum.new ≡ added 16 sum.old (correction_in side16 first second d.now) }
 {
-    let low = low_noise(first, second);
+    let low = both_most(LOW_NOISE, first, second);
     let g = gains(d, first, second);
     add_inverse(g, low, &mut *sum);
 }

@@ -1,28 +1,8 @@
 // The first pass of the inverse, down the columns of a pair of folded spectra, in place.
-ghost use Rattle.std.specs.Prelude.{◌≡◌, ◌<◌};
-ghost use Rattle.tile_pair32.specs.Prelude.{false, cond, eqb, get_or, side32, tab, grid, cell, backward_of, long_fold_most, LongPaired, LongInDouble, long_doubles, nan};
+ghost use Rattle.std.specs.Prelude.{◌≡◌};
+ghost use Rattle.tile_pair32.specs.Prelude.{false, side32, backward_of, long_fold_most, LongPaired, LongInDouble, long_doubles, nan};
 
-// Column l of a pair, as a line.
-fn column(g: &[[f64; 64]; 32], l: usize) -> [f64; 32]
-    requires { l < 64 }
-    ensures { result ≡ tab 32 (λ y. cell nan g.now y l) }
-{
-    let mut r = [0.0f64; 32];
-    for y in 0..32 {
-        r[y] = g[y][l];
-    }
-    r
-}
-
-// Column l of a pair is replaced by z.
-fn set_column(t: &mut [[f64; 64]; 32], l: usize, z: &[f64; 32])
-    requires { (l < 64) × (LongPaired nan t.old) }
-    ensures { t.new ≡ grid 32 64 (λ k m. cond (eqb m l) (get_or z.now k nan) (cell nan t.old k m)) }
-{
-    for k in 0..32 {
-        t[k][l] = z[k];
-    }
-}
+use tile_spectrum::columns::{column, set_column};
 
 // g: the sums back down each column.
 pub fn back(g: &mut [[f64; 64]; 32])

@@ -10,9 +10,9 @@ ghost use Rattle.std.specs.Prelude.{◌≡◌, ◌^◌, ◌≤◌};
 ghost use Rattle.tile_pair32.specs.Prelude.{pos, nan, side32, difference_most, long_fold_most, TileMost, by_columns, plane_bins, pair_gains, correction_in, added, LongPaired, LongInDouble, LongInverseAdded, long_doubles};
 ghost use Rattle.tile_spectrum.specs.Magnitudes.{long_noise_most};
 
-use tile_bin::quiet::{long_low_noise, long_middle_noise};
-use tile_wiener::thirty_two::filter;
-use tile_wiener_exact::thirty_two::filter_exactly;
+use tile_bin::quiet::{LONG_LOW_NOISE, LONG_MIDDLE_NOISE, both_most};
+use tile_wiener::filter;
+use tile_wiener_exact::filter_exactly;
 
 // b: B of both planes, in exact whole numbers.
 fn forward(d: &[[i16; 64]; 32], b: &mut [[f64; 64]; 32])
@@ -57,8 +57,8 @@ pub fn add_corrections(
     requires { record { differences : TileMost difference_most d.now; first_most : first ≤ long_noise_most; second_most : second ≤ long_noise_most; spare : LongPaired nan b.old; sums_most : TileMost (2 ^ 40) sum.old; paired : LongPaired (pos 0) sum.old } }
     ensures { record { spare : LongPaired nan b.new; is : sum.new ≡ added 32 sum.old (correction_in side32 first second d.now) } }
 {
-    let low = long_low_noise(first, second);
-    let middle = long_middle_noise(first, second);
+    let low = both_most(LONG_LOW_NOISE, first, second);
+    let middle = both_most(LONG_MIDDLE_NOISE, first, second);
     gains(d, first, second, &mut *b);
     add_inverse(&mut *b, low, middle, &mut *sum);
 }

@@ -1,6 +1,6 @@
 -- The store of a quad of two tiles of side 2·h side by side.
 use Rattle.std.specs.Prelude.{◌≡◌, ◌∷◌, ◌+◌, ◌*◌, ◌%◌, ◌<◌}
-use Rattle.tile_quad.specs.Prelude.{refl, sym, ap, ◌∙◌, List, [], ℕ, arith, get_or, set, Float, nan}
+use Rattle.tile_quad.specs.Prelude.{refl, sym, ap, subst, ◌∙◌, List, [], ℕ, arith, get_or, set, Float, nan}
 use native.Mathlib.Nat.{mod-eq_of_lt, add-mod_left}
 use Rattle.sequences.specs.Grid.{grid, cell, grid-of, stored, stored_here, stored-apart, set-grid}
 use Rattle.tile_spectrum.specs.QuadLaws.{four}
@@ -50,9 +50,14 @@ module _ (h u l : ℕ) (i : u < h) (j : l < 2 * h) (q : List Float) (f : ℕ →
           ∙ stored-apart _ _ _ one a b (λ p r. o (same h c (high i) p) (same (2 * h) d (mod-eq_of_lt j) r)) ∙ stored-apart _ _ _ f a b (λ p r. o (same h c (mod-eq_of_lt i) p) (same (2 * h) d (mod-eq_of_lt j) r))
 
 -- a table of such a pair's size is a pair
-module _ (h : ℕ) {Pair : List (List Float) → Type 0} (pair : (r : List (List Float)) → r ≡ grid (2 * h) (4 * h) (cell nan r) → Pair r) where
-  pub with-quad : (u l : ℕ) → u < h → l < 2 * h → (q : List Float) {b : List (List Float)} → b ≡ grid (2 * h) (4 * h) (cell nan b) → WithQuadOf h Pair u l q b (put (h + u) (2 * h + l) (number_of q 3) (put u (2 * h + l) (number_of q 2) (put (h + u) l (number_of q 1) (put u l (number_of q 0) b))))
-  with-quad u l i j q {b} p =
+module _ (h : ℕ) (Pair : List (List Float) → Type 0) (u l : ℕ) (q : List Float) (b : List (List Float)) where
+  -- the stores of a quad into n rows of m, of which half go with n
+  abbrev Stored : (n m : ℕ) → Type 0
+  Stored n m =
+      ((r : List (List Float)) → r ≡ grid n m (cell nan r) → Pair r) → u < h → l < n → b ≡ grid n m (cell nan b) → WithQuadOf h Pair u l q b (put (h + u) (n + l) (number_of q 3) (put u (n + l) (number_of q 2) (put (h + u) l (number_of q 1) (put u l (number_of q 0) b))))
+
+  twice : Stored (2 * h) (4 * h)
+  twice pair i j p =
       let f = cell nan b in
       let e =
       set-grid (h + u) (2 * h + l) _ (three h u l i j q f) (2 * h) (4 * h)
@@ -63,3 +68,8 @@ module _ (h : ℕ) {Pair : List (List Float) → Type 0} (pair : (r : List (List
         here = quad-grid nan h (all h u l i j q f) e u l i j ∙ all_here h u l i j q f;
         apart = λ x y v w o. quad-grid nan h (all h u l i j q f) e x y v w ∙ all_apart h u l i j q f x y v w o;
       }
+
+  pub with-quad : {n : ℕ} → n ≡ 2 * h → Stored n (2 * n)
+  with-quad {n} e =
+      let d : 2 * n ≡ 4 * h = omega arith in
+      subst (Stored n) (sym d) (subst (λ k. Stored k (4 * h)) (sym e) twice)

@@ -1,8 +1,7 @@
 -- Inside the crates of the merge: the Wiener step on two tiles of side 2·h side by side in double, quad by quad. Quad (u, l) holds lanes l and 2·h + l of rows u and
 -- h + u: of plane l % 2, quad (l / 2, u) of the tile, which is held by columns.
-use Rattle.std.specs.Prelude.{◌≡◌, ◌∷◌, ◌+◌, ◌*◌, ◌≤◌, ◌<◌}
-use Rattle.tile_quad.specs.Prelude.{cond, List, [], ℕ, eqb, get_or, Float, nan, binary64, add, sub, cell, by_kind, Paired}
-use Rattle.tile_spectrum.specs.Magnitudes.{bin_most}
+use Rattle.std.specs.Prelude.{◌≡◌, ◌∷◌, ◌+◌, ◌*◌, ◌/◌, ◌≤◌, ◌<◌}
+use Rattle.tile_quad.specs.Prelude.{cond, List, [], ℕ, eqb, get_or, Float, nan, binary64, add, sub, cell, by_kind, PairedOf}
 use Rattle.tile_spectrum.specs.Lines.Doubles.{WholeDouble}
 
 -- ---- a quad of G from that of B
@@ -43,10 +42,6 @@ quad_in real gains k u q = cond (eqb (k + u) 0) (corner_in real q) (fold_in gain
 pub record WholeBinsOf (m k u : ℕ) (q : List Float) : Type 0 where
   pub at : (i : ℕ) → i < 4 → WholeDouble m (number_of (bins_in k u q) i)
 
--- for side 16
-abbrev pub WholeBins : (k u : ℕ) (q : List Float) → Type 0
-WholeBins = WholeBinsOf bin_most
-
 -- ---- quads of a pair of tiles of side 2·h
 
 -- quad (u, l): rows u and h + u of lanes l and 2·h + l
@@ -71,13 +66,20 @@ module _ (h : ℕ) (Pair : List (List Float) → Type 0) where
     pub new : (u l : ℕ) → u < h → l < 2 * h → m ≤ place_of h u l → place_of h u l < n → quad_at_of h (cell nan r) u l ≡ f u l (quad_at_of h (cell nan b) u l)
     pub rest : (u l : ℕ) → u < h → l < 2 * h → (m ≤ place_of h u l → place_of h u l < n → ⊥) → quad_at_of h (cell nan r) u l ≡ quad_at_of h (cell nan b) u l
 
--- ---- of a pair of side 16
+-- ---- of a pair of an even side n, in rows of w places
 
-abbrev pub quad_at : {A : Type 0} → (f : ℕ → ℕ → A) (u l : ℕ) → List A
-quad_at = quad_at_of 8
+pub record IsEvenPair (w n : ℕ) : Type 0 where
+  pub places : w ≡ 2 * n
+  pub even : n ≡ 2 * (n / 2)
 
-abbrev pub WithQuad : (u l : ℕ) (q : List Float) (b r : List (List Float)) → Type 0
-WithQuad = WithQuadOf 8 (Paired nan)
+abbrev pub quad_at : {A : Type 0} → (n : ℕ) (f : ℕ → ℕ → A) (u l : ℕ) → List A
+quad_at n = quad_at_of (n / 2)
 
-abbrev pub Lanes : (f : (u l : ℕ) → List Float → List Float) (m n : ℕ) (b r : List (List Float)) → Type 0
-Lanes = LanesOf 8 (Paired nan)
+abbrev pub place : (n u l : ℕ) → ℕ
+place n = place_of (n / 2)
+
+abbrev pub WithQuad : (n u l : ℕ) (q : List Float) (b r : List (List Float)) → Type 0
+WithQuad n = WithQuadOf (n / 2) (PairedOf n nan)
+
+abbrev pub Lanes : (n : ℕ) (f : (u l : ℕ) → List Float → List Float) (from below : ℕ) (b r : List (List Float)) → Type 0
+Lanes n = LanesOf (n / 2) (PairedOf n nan)

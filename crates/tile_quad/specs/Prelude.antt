@@ -4,5 +4,5 @@ pub use Rattle.std.specs.Prelude.{Float, ◌%◌, ◌*◌, ◌+◌, ◌+ℤ◌, 
 pub use Rattle.std.specs.Float.Ieee.{add, of_int, sub}
 pub use Rattle.std.specs.Float.{binary64, nan}
 unfoldable pub use Rattle.sequences.specs.Grid.{cell}
-pub use Rattle.tile_spectrum.specs.Pairs.{Binned, Paired, either}
+pub use Rattle.tile_spectrum.specs.Pairs.{Binned, Paired, PairedOf, either}
 unfoldable pub use Rattle.tile_spectrum.specs.Spectrum.{by_kind, folded_quad, quad_places, two_bins_of}

@@ -1,28 +1,37 @@
-// Quads of two tiles side by side in double: what a quad of G is made of, and how one is read and stored. Quad (u, l) is rows u and 8 + u of lanes l and
-// 16 + l.
+// Quads of two tiles side by side in double: what a quad of G is made of, and how one is read and stored. With h half the side, quad (u, l) is rows u and h + u of
+// lanes l and side + l.
 #![tactic(auto)]
 
-pub mod thirty_two;
-
-ghost use Rattle.std.specs.Prelude.{◌≡◌, ◌<◌};
-ghost use Rattle.tile_quad.specs.Prelude.{nan, cell, Paired};
-ghost use Rattle.tile_quad.specs.Lanes.{quad_at, WithQuad};
+ghost use Rattle.std.specs.Prelude.{◌≡◌, ◌/◌, ◌<◌};
+ghost use Rattle.tile_quad.specs.Prelude.{nan, cell, PairedOf};
+ghost use Rattle.tile_quad.specs.Lanes.{IsEvenPair, quad_at, WithQuad};
 
 // Quad (u, l).
-pub fn quad_at(b: &[[f64; 32]; 16], u: usize, l: usize) -> [f64; 4]
-    requires { (u < 8) × (l < 16) }
-    ensures { result ≡ quad_at (cell nan b.now) u l }
+pub fn quad_at<const LANES: usize, const SIDE: usize>(
+    b: &[[f64; LANES]; SIDE],
+    u: usize,
+    l: usize,
+) -> [f64; 4]
+    requires { (IsEvenPair LANES SIDE) × (u < SIDE / 2) × (l < SIDE) }
+    ensures { result ≡ quad_at SIDE (cell nan b.now) u l }
 {
-    [b[u][l], b[8 + u][l], b[u][16 + l], b[8 + u][16 + l]]
+    let h = SIDE / 2;
+    [b[u][l], b[h + u][l], b[u][SIDE + l], b[h + u][SIDE + l]]
 }
 
 // Stores quad (u, l).
-pub fn set_quad(b: &mut [[f64; 32]; 16], u: usize, l: usize, q: [f64; 4])
-    requires { record { u_below : u < 8; l_below : l < 16; paired : Paired nan b.old } }
-    ensures { WithQuad u l q b.old b.new }
+pub fn set_quad<const LANES: usize, const SIDE: usize>(
+    b: &mut [[f64; LANES]; SIDE],
+    u: usize,
+    l: usize,
+    q: [f64; 4],
+)
+    requires { record { pair : IsEvenPair LANES SIDE; u_below : u < SIDE / 2; l_below : l < SIDE; paired : PairedOf SIDE nan b.old } }
+    ensures { WithQuad SIDE u l q b.old b.new }
 {
+    let h = SIDE / 2;
     b[u][l] = q[0];
-    b[8 + u][l] = q[1];
-    b[u][16 + l] = q[2];
-    b[8 + u][16 + l] = q[3];
+    b[h + u][l] = q[1];
+    b[u][SIDE + l] = q[2];
+    b[h + u][SIDE + l] = q[3];
 }

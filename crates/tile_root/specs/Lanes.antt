@@ -7,9 +7,5 @@ unfoldable pub lane_black : (first second l : ℕ) → ℕ
 lane_black first second l = cond (eqb (l % 2) 0) first second
 
 -- the squares of the first n rows of w places, added up at each place
-unfoldable pub lanes_of : (w n : ℕ) → List ℕ → List (List ℕ) → List ℕ
-lanes_of w n black tile = tab w (λ l. sum_n n (λ i. squared (get_or black l 0) (cell 0 tile i l)))
-
--- of a pair of side 16
-abbrev pub lanes : (n : ℕ) → List ℕ → List (List ℕ) → List ℕ
-lanes = lanes_of 32
+unfoldable pub lanes : (w n : ℕ) → List ℕ → List (List ℕ) → List ℕ
+lanes w n black tile = tab w (λ l. sum_n n (λ i. squared (get_or black l 0) (cell 0 tile i l)))

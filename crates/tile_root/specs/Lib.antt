@@ -1,4 +1,3 @@
-pub mod ThirtyTwo
 pub mod Prelude
 pub mod Range
 pub mod Lanes

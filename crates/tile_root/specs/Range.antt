@@ -10,14 +10,15 @@ pub record RowFits (row : List ℕ) : Type 0 where
 pub record SamplesFit (tile : List (List ℕ)) : Type 0 where
   pub most : (i j : ℕ) → cell 0 tile i j ≤ 4095
 
+-- a pair of tiles of side n, in rows of w places
+pub record IsPair (w n : ℕ) : Type 0 where
+  pub places : w ≡ 2 * n
+  pub side_most : n ≤ 32
+
 -- the sums at the w places of a pair's rows, each of at most k squares of such samples
-pub record LanesFitOf (w k : ℕ) (sum : List ℕ) : Type 0 where
+pub record LanesFit (w k : ℕ) (sum : List ℕ) : Type 0 where
   pub long : length sum ≡ w
   pub most : (l : ℕ) → get_or sum l 0 ≤ k * 16769025
-
--- of a pair of side 16
-abbrev pub LanesFit : (k : ℕ) (sum : List ℕ) → Type 0
-LanesFit = LanesFitOf 32
 
 -- r of both planes of a pair of tiles of this side, of their black levels; samples up to 4095 have r up to 4095 times the side
 pub record PairRoots (side black black' : ℕ) (tile : List (List ℕ)) (root root' : ℕ) : Type 0 where

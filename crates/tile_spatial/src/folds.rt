@@ -44,11 +44,7 @@ fn fold_row(g: &[[i64; 18]; 16], h: &[[i64; 18]; 16], b: usize) -> [f64; 32]
     requires { record { re_most : TileMost spatial_gain_most g.now; im_most : TileMost spatial_gain_most h.now; b_below : b < 16 } }
     ensures { result ≡ tab 32 (λ l. of_int binary64 (spread (plane_in (cell (pos 0) g.now) (l % 2)) (plane_in (cell (pos 0) h.now) (l % 2)) (l / 2) b)) }
 {
-    let mut r = [0.0f64; 32];
-    for l in 0..32 {
-        r[l] = folded(g, h, b, l) as f64;
-    }
-    r
+    std::array::from_fn(|l| folded(g, h, b, l) as f64)
 }
 
 // All places.
@@ -56,9 +52,10 @@ pub fn folds(g: &[[i64; 18]; 16], h: &[[i64; 18]; 16]) -> [[f64; 32]; 16]
     requires { record { re_most : TileMost spatial_gain_most g.now; im_most : TileMost spatial_gain_most h.now } }
     ensures { result ≡ doubles (side_by_side (λ p. transposed (spread (plane_in (cell (pos 0) g.now) p) (plane_in (cell (pos 0) h.now) p)))) }
 {
-    let mut r = [[0.0f64; 32]; 16];
-    for b in 0..16 {
-        r[b] = fold_row(g, h, b);
-    }
-    r
+    std::array::from_fn(
+        |b: usize| -> [f64; 32]
+            requires { record { re_most : TileMost spatial_gain_most g.now; im_most : TileMost spatial_gain_most h.now; b_below : b < 16 } }
+            ensures { result ≡ tab 32 (λ l. of_int binary64 (spread (plane_in (cell (pos 0) g.entry.now) (l % 2)) (plane_in (cell (pos 0) h.entry.now) (l % 2)) (l / 2) b)) }
+        { fold_row(g, h, b) },
+    )
 }

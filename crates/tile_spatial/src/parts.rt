@@ -1,7 +1,9 @@
 // The high and low parts of the copies: a sample is 4096 times its high part and its low part, and both are small enough for differences of samples.
 ghost use Rattle.std.specs.Prelude.{◌≡◌};
-ghost use Rattle.tile_spatial.specs.Prelude.{pos, get_or, AtMost, tab, grid, cell, LineMost, TileMost, difference_most, copy_most};
+ghost use Rattle.tile_spatial.specs.Prelude.{pos, AtMost, grid, cell, TileMost, difference_most, copy_most};
 ghost use Rattle.tile_spatial.specs.Steps.{high_of, low_of};
+
+use tile_spectrum::places::mapped;
 
 // The high part, rounded down.
 fn high(c: i32) -> i16
@@ -19,40 +21,12 @@ fn low(c: i32) -> i16
     (c - 4096 * (c >> 12)) as i16
 }
 
-// The high parts of a row.
-fn high_row(c: &[i32; 32]) -> [i16; 32]
-    requires { LineMost copy_most c.now }
-    ensures { result ≡ tab 32 (λ l. high_of (get_or c.now l (pos 0))) }
-{
-    let mut r = [0i16; 32];
-    for l in 0..32 {
-        r[l] = high(c[l]);
-    }
-    r
-}
-
-// The low parts of a row.
-fn low_row(c: &[i32; 32]) -> [i16; 32]
-    requires { LineMost copy_most c.now }
-    ensures { result ≡ tab 32 (λ l. low_of (get_or c.now l (pos 0))) }
-{
-    let mut r = [0i16; 32];
-    for l in 0..32 {
-        r[l] = low(c[l]);
-    }
-    r
-}
-
 // The high parts of a pair.
 pub fn highs(c: &[[i32; 32]; 16]) -> [[i16; 32]; 16]
     requires { TileMost copy_most c.now }
     ensures { (result ≡ grid 16 32 (λ y l. high_of (cell (pos 0) c.now y l))) × (TileMost difference_most result) }
 {
-    let mut r = [[0i16; 32]; 16];
-    for y in 0..16 {
-        r[y] = high_row(&c[y]);
-    }
-    r
+    mapped(c, high)
 }
 
 // The low parts of a pair.
@@ -60,9 +34,5 @@ pub fn lows(c: &[[i32; 32]; 16]) -> [[i16; 32]; 16]
     requires { TileMost copy_most c.now }
     ensures { (result ≡ grid 16 32 (λ y l. low_of (cell (pos 0) c.now y l))) × (TileMost difference_most result) }
 {
-    let mut r = [[0i16; 32]; 16];
-    for y in 0..16 {
-        r[y] = low_row(&c[y]);
-    }
-    r
+    mapped(c, low)
 }

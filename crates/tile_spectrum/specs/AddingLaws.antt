@@ -1,6 +1,8 @@
 -- A row of sums to which numbers are added one after the other, over the row's length and the numbers' bound.
-use Rattle.std.specs.Prelude.{◌≡◌, ◌+◌, ◌^◌, ◌<◌, ◌+ℤ◌}
-use Rattle.algebra.specs.Prelude.{sym, ap, ap₂, subst, ◌∙◌, List, ℕ, T, ltb, get_or, set, ℤ, pos, w64, SFits, to_z, of_z, to_z-of_z}
+use Rattle.std.specs.Prelude.{◌≡◌, ◌+◌, ◌^◌, ◌≤◌, ◌<◌, ◌+ℤ◌}
+use Rattle.algebra.specs.Prelude.{sym, ap, ap₂, subst, ◌∙◌, List, ℕ, T, arith, ltb, nat_abs, get_or, set, ℤ, pos, w64, SFits, to_z, of_z, to_z-of_z}
+use Rattle.std.proofs.Common.{le_refl}
+use Rattle.std.proofs.Math.Facts.{ltb_yes, yes_ltb}
 use Rattle.algebra.specs.Bound.{AtMost, add-fits}
 use Rattle.algebra.specs.Nearest.{away}
 use Rattle.sequences.specs.Tab.{tab}
@@ -9,19 +11,43 @@ use Rattle.sequences.specs.Grid.{tab-ext}
 use Rattle.tile_spectrum.specs.Lines.Lines.{LineMost}
 use Rattle.tile_spectrum.specs.Lines.Held.{line_at, number_is, number-most}
 
--- number l of the sums t, and r of at most b: the sum is stored in its place
+-- two numbers whose magnitudes add up to less than 2^63: their sum
+module _ (s r : ℤ) (m : nat_abs s + nat_abs r < 2 ^ 63) where
+  sum-first : AtMost (nat_abs s) s
+  sum-first = record { most = le_refl (nat_abs s) }
+
+  sum-second : AtMost (nat_abs r) r
+  sum-second = record { most = le_refl (nat_abs r) }
+
+  first-held : T (ltb (nat_abs s) (2 ^ 63))
+  first-held = yes_ltb (omega arith)
+
+  second-held : T (ltb (nat_abs r) (2 ^ 63))
+  second-held = yes_ltb (omega arith)
+
+  pub sum-fits : SFits w64 (to_z w64 (of_z w64 s) +ℤ to_z w64 (of_z w64 r))
+  sum-fits = add-fits w64 _ _ _ _ (number-most w64 sum-first first-held) (number-most w64 sum-second second-held) (yes_ltb m)
+
+  pub sum-is : to_z w64 (of_z w64 (to_z w64 (of_z w64 s) +ℤ to_z w64 (of_z w64 r))) ≡ s +ℤ r
+  sum-is = to_z-of_z sum-fits ∙ ap₂ ◌+ℤ◌ (number_is w64 sum-first first-held) (number_is w64 sum-second second-held)
+
+-- a sum of at most 2^40 and what rounds a half
+pub adding-below : {s : List ℤ} → LineMost (2 ^ 40) s → (l : ℕ) (r : ℤ) → nat_abs r ≤ 2 ^ 24 → nat_abs (get_or s l (pos 0)) + nat_abs r < 2 ^ 63
+adding-below m l r k = omega (arith, m.at l, k)
+
+-- number l of the sums t, at most 2^40 as that of s, and r of at most b
 module _ {f : ℕ → ℤ} {n l b : ℕ} {s t : List ℤ} {r : ℤ} (i : Filled f n l s t) (h : l < n) (m : LineMost (2 ^ 40) s) (k : AtMost b r) (u : T (ltb b (2 ^ 63))) (v : T (ltb (2 ^ 40 + b) (2 ^ 63))) where
   unset : get_or t l (pos 0) ≡ get_or s l (pos 0)
   unset = fill-rest i h (pos 0)
 
-  sum-most : AtMost (2 ^ 40) (get_or t l (pos 0))
-  sum-most = subst (AtMost (2 ^ 40)) (sym unset) (line_at m l)
+  sum-most : nat_abs (get_or t l (pos 0)) + nat_abs r < 2 ^ 63
+  sum-most = let a = subst (AtMost (2 ^ 40)) (sym unset) (line_at m l) in omega (arith, a.most, k.most, ltb_yes v)
 
   pub adding-fits : SFits w64 (to_z w64 (of_z w64 (get_or t l (pos 0))) +ℤ to_z w64 (of_z w64 r))
-  adding-fits = add-fits w64 _ _ _ _ (number-most w64 sum-most tt) (number-most w64 k u) v
+  adding-fits = sum-fits (get_or t l (pos 0)) r sum-most
 
   pub adding-turn : get_or s l (pos 0) +ℤ r ≡ f l → Filled f n (l + 1) s (set t l (to_z w64 (of_z w64 (to_z w64 (of_z w64 (get_or t l (pos 0))) +ℤ to_z w64 (of_z w64 r)))))
-  adding-turn e = fill-turn i h (to_z-of_z adding-fits ∙ ap₂ ◌+ℤ◌ (number_is w64 sum-most tt ∙ unset) (number_is w64 k u) ∙ e)
+  adding-turn e = fill-turn i h (sum-is (get_or t l (pos 0)) r sum-most ∙ ap (λ z. z +ℤ r) unset ∙ e)
 
 -- what is added to equal rows, and equal numbers added
 pub added-to : (n : ℕ) (f : ℕ → ℤ) {s t : List ℤ} → s ≡ t → tab n (λ l. get_or s l (pos 0) +ℤ f l) ≡ tab n (λ l. get_or t l (pos 0) +ℤ f l)

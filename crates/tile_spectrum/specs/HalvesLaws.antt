@@ -1,11 +1,13 @@
 -- Half of the sums back of two rows side by side, n numbers in all: z holds number k of row p at place 2·k + p. Over the side s, and over the greatest half c
 -- where a number is at most m.
-use Rattle.tile_spectrum.specs.Prelude.{sym, ap, subst, ◌∙◌, List, ℕ, arith, ℤ, nat_abs, tab, Side, half_sum_of}
+use Rattle.tile_spectrum.specs.Prelude.{sym, ap, subst, ◌∙◌, List, ℕ, arith, lit<, get_or, ℤ, nat_abs, away, tab, Side, half_sum_of}
 use Rattle.std.proofs.Common.{le_trans}
-use Rattle.std.specs.Prelude.{Float, ◌≡◌, ◌+◌, ◌*◌, ◌/◌, ◌%◌, ◌≤◌}
+use Rattle.std.specs.Prelude.{Float, ◌≡◌, ◌+◌, ◌*◌, ◌/◌, ◌%◌, ◌^◌, ◌≤◌, ◌<◌}
 use Rattle.std.specs.Float.{binary64}
 use Rattle.std.specs.Float.Ieee.{of_int}
 use Rattle.sequences.specs.Grid.{tab-ext}
+use Rattle.sequences.specs.TabLaws.{get_d-tab}
+use Rattle.tile_spectrum.specs.RoundingLaws.{away-within}
 use Rattle.tile_spectrum.specs.Lines.Lines.{LineMost}
 use Rattle.tile_spectrum.specs.Lines.Tiles.{line-most}
 use Rattle.tile_spectrum.specs.Lines.Doubles.{double_line, HalvesOf, WholeLine}
@@ -37,3 +39,14 @@ module _ (s : Side) {n m c : ℕ} (bound : (z : ℕ → ℤ) → ((k : ℕ) → 
   -- and in 64 bits
   pub halves_most : {x : List ℤ} → x ≡ tab n (half_at s w.number) → LineMost c x
   halves_most e = subst (LineMost c) (sym e) (line-most c _ half-most n)
+
+  module _ {x : List ℤ} (e : x ≡ tab n (half_at s w.number)) (l : ℕ) (a : ℤ) (i : l < n) where
+    pub half-is : get_or x l a ≡ half_at s w.number l
+    half-is = ap (λ x. get_or x l a) e ∙ get_d-tab (half_at s w.number) a n l i
+
+    pub half-below : nat_abs (get_or x l a) ≤ c
+    half-below = subst (λ z. nat_abs z ≤ c) (sym half-is) (half-most l)
+
+    -- and P of it
+    pub half-rounded : c ≤ 2 ^ 24 * 2 ^ 31 → nat_abs (away (get_or x l a) (2 ^ 31)) ≤ 2 ^ 24
+    half-rounded k = away-within (get_or x l a) (2 ^ 31) (2 ^ 24) (lit< tt) (le_trans half-below k)

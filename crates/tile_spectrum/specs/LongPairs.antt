@@ -4,18 +4,17 @@ use Rattle.std.proofs.Common.{le_trans}
 use Rattle.std.specs.Prelude.{Float, ◌≡◌, ◌≤◌, ◌<◌}
 use Rattle.std.specs.Float.{binary64}
 use Rattle.std.specs.Float.Ieee.{of_int}
-use Rattle.sequences.specs.Grid.{grid, cell}
+use Rattle.sequences.specs.Grid.{grid}
 use Rattle.tile_spectrum.specs.Magnitudes.{gain_most, long_bin_most}
 use Rattle.tile_spectrum.specs.Spectrum.{tile_re_of, tile_im_of, two_bins_of}
-use Rattle.tile_spectrum.specs.Pairs.{by_columns, pair_gains, inverse_in, added}
+use Rattle.tile_spectrum.specs.Pairs.{PairedOf, by_columns, pair_gains, inverse_in, added}
 use Rattle.tile_spectrum.specs.Turns.{turns32}
 use Rattle.tile_spectrum.specs.QuadLaws.{bins-each-of}
 use Rattle.tile_spectrum.specs.WienerLaws.{wiener-most}
 use Rattle.tile_spectrum.specs.SideSizes.{part-within}
 
--- thirty-two rows of sixty-four
-pub record LongPaired {A : Type 0} (z : A) (t : List (List A)) : Type 0 where
-  pub is : t ≡ grid 32 64 (cell z t)
+abbrev pub LongPaired : {A : Type 0} (z : A) (t : List (List A)) → Type 0
+LongPaired = PairedOf 32
 
 -- whole numbers in double
 unfoldable pub long_doubles : (ℕ → ℕ → ℤ) → List (List Float)

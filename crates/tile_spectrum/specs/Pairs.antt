@@ -46,11 +46,14 @@ inverse_in s g p y x = away (back_sum_of s (transposed (plane_in g p)) y x) (2 ^
 abbrev pub added : (n : ℕ) (sum : List (List ℤ)) (f : ℕ → ℕ → ℕ → ℤ) → List (List ℤ)
 added n sum f = grid n (2 * n) (λ y l. cell (pos 0) sum y l +ℤ f (l % 2) y (l / 2))
 
+-- a pair of tiles of side n: n rows of 2·n
+pub record PairedOf (n : ℕ) {A : Type 0} (z : A) (t : List (List A)) : Type 0 where
+  pub is : t ≡ grid n (2 * n) (cell z t)
+
 -- ---- pairs of tiles of side 16
 
--- sixteen rows of thirty-two
-pub record Paired {A : Type 0} (z : A) (t : List (List A)) : Type 0 where
-  pub is : t ≡ grid 16 32 (cell z t)
+abbrev pub Paired : {A : Type 0} (z : A) (t : List (List A)) → Type 0
+Paired = PairedOf 16
 
 -- whole numbers in double
 unfoldable pub doubles : (ℕ → ℕ → ℤ) → List (List Float)

@@ -1,7 +1,7 @@
 -- P of a whole number in double, as the code takes it.
 use Rattle.tile_spectrum.specs.Prelude.{sym, ap, subst, ℕ, arith, T, lit<, lit≤, ℤ, pos, nat_abs, away}
 use Rattle.algebra.specs.Prelude.{not, w64, to_z}
-use Rattle.std.specs.Prelude.{Float, ◌≡◌, ◌*◌, ◌^◌, ◌≤◌, ◌<◌, ◌-ℤ◌}
+use Rattle.std.specs.Prelude.{Float, ◌≡◌, ◌*◌, ◌^◌, ◌≤◌, ◌<◌, ◌-◌, ◌-ℤ◌}
 use Rattle.std.specs.Float.{binary64}
 use Rattle.std.specs.Float.Ieee.{is_nan, add, mul, to_bits}
 use Rattle.std.proofs.lemmas.Int.{to_z_pos}
@@ -17,6 +17,10 @@ rounded_bits x = to_bits binary64 (add binary64 (mul binary64 x (fraction 31)) m
 
 unfoldable pub rounded_double : Float → ℤ
 rounded_double x = pos (rounded_bits x) -ℤ pos middle_bits
+
+-- the largest whole number of which it is P
+abbrev pub rounded_most : ℕ
+rounded_most = 5 * 2 ^ 49 - 1
 
 -- of a half where noise is low
 module _ {m : ℕ} {x : Float} (w : WholeDouble m x) (h : m < 5 * 2 ^ 49) where

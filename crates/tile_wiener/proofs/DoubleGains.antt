@@ -1,20 +1,25 @@
 -- Quads of G with quotients in double are those of the folded G where these are certain, and V and W of each lane are those of its plane.
-use Rattle.std.specs.Prelude.{◌≡◌, ◌+◌, ◌*◌, ◌/◌, ◌%◌, ◌≤◌, ◌<◌}
-use Rattle.tile_wiener.specs.Prelude.{ap, subst, ◌∙◌, List, ℕ, arith, lit<, get_or, set, ℤ, pos, Float, nan, cell, either, SureBy, number_of, bins_in}
+use Rattle.std.specs.Prelude.{◌≡◌, ◌*◌, ◌/◌, ◌%◌, ◌≤◌, ◌<◌}
+use Rattle.tile_wiener.specs.Prelude.{ap, subst, ◌∙◌, List, ℕ, arith, lit<, refl, true, get_or, ℤ, pos, Float, nan, cell, either, SureBy, number_of, bins_in}
 use mathlib.Core.List.{map}
 use Prim.Native.Nat.{zero-le}
-use borrow.Author.Tests.{eq-eqb, ne_eqb}
 use Rattle.sequences.specs.Tab.{tab}
-use Rattle.sequences.specs.TabLaws.{get_d-tab, Filled, fill-turn}
+use Rattle.sequences.specs.TabLaws.{get_d-tab}
+use Rattle.geometry.specs.Fits.{TileSide}
 use Rattle.recipe.specs.Side.{Side}
+use Rattle.recipe.specs.Tables.{side16}
+use Rattle.recipe.specs.Tables32.{side32}
 use Rattle.tile_spectrum.specs.Magnitudes.{noise_most}
 use Rattle.tile_spectrum.specs.Spectrum.{quad_places, two_bins_of, folded_gain}
-use Rattle.tile_spectrum.specs.Pairs.{by_columns}
-use Rattle.tile_bin.specs.DoubleLaws.{weight, Quanta, gains-are, real-gain-is}
-use Rattle.tile_quad.specs.Lanes.{quad_at_of}
-use Rattle.tile_quad.specs.QuadGains.{double, BinsFit, SmallBins, bin-is, quad-gains}
-use Rattle.tile_quad.specs.FilterLaws.{either-of, by-plane, doubles_of, place-below, Gains, quad-of}
-use Rattle.tile_wiener.specs.DoubleQuads.{double_quad, new_quad_by, SureQuadBy, SureQuadsOf}
+use Rattle.tile_spectrum.specs.Pairs.{doubles, by_columns}
+use Rattle.tile_spectrum.specs.LongPairs.{long_doubles}
+use Rattle.tile_bin.specs.DoubleLaws.{weight, Quanta, quanta16, quanta32, gains-are, real-gain-is}
+use Rattle.tile_quad.specs.Lanes.{quad_at_of, place}
+use Rattle.tile_quad.specs.AtSide.{GainsAt}
+use Rattle.tile_quad.specs.AtSideLaws.{by-side}
+use Rattle.tile_quad.specs.QuadGains.{double, BinsFit, bins-fit, long-bins-fit, SmallBins, small-bins, long-small-bins, bin-is, quad-gains}
+use Rattle.tile_quad.specs.FilterLaws.{either-of, by-plane, doubles_of, place-below, Gains, quad-of, pair-filtered}
+use Rattle.tile_wiener.specs.DoubleQuads.{double_quad, new_quad_by, SureQuadBy, SureQuadsOf, Shrunk}
 
 -- what is known of a plane and its noise number
 pub record Known (s : Side) (most v : ℕ) (t : ℕ → ℕ → ℤ) : Type 0 where
@@ -70,11 +75,17 @@ module _ {s : Side} {most bits : ℕ} (fit : BinsFit s most) (quanta : Quanta s 
             (subst (λ x. SureQuadBy bits x (weight (noise (l % 2))) (l / 2) u (quad_at_of s.half (cell nan b) u l)) (noise-at l k)
             (subst (λ y. SureQuadBy bits (get_or v l nan) y (l / 2) u (quad_at_of s.half (cell nan b) u l)) (weight-at l k) (c.quad u l h k zero-le (place-below s u l h k))))
 
--- ---- a number for each plane in its lanes
+-- ---- of a side's bins
 
-module _ {A : Type 0} (a b : A) where
-  pub planes-turn : {n k : ℕ} {d r : List A} → Filled (λ l. either a b (l % 2)) n (2 * k) d r → k < n / 2 → Filled (λ l. either a b (l % 2)) n (2 * (k + 1)) d (set (set r (2 * k) a) (2 * k + 1) b)
-  planes-turn {n} {k} {d} {r} w h =
-      let e : 2 * k + 1 + 1 ≡ 2 * (k + 1) = omega arith in
-      subst (λ i. Filled (λ l. either a b (l % 2)) n i d (set (set r (2 * k) a) (2 * k + 1) b)) e
-      (fill-turn (fill-turn w (omega arith) (rw (eq-eqb (2 * k % 2) 0 (omega arith)))) (omega arith) (rw (ne_eqb ((2 * k + 1) % 2) 0 (λ e. omega arith))))
+pub filtered-at : {n : ℕ} → TileSide n → (first second : ℕ) → 0 < first → 0 < second → first ≤ noise_most → second ≤ noise_most → {v w : List Float} → (b r : List (List Float)) →
+    v ≡ tab n (λ l. either (double (pos first)) (double (pos second)) (l % 2)) → w ≡ tab n (λ l. either (weight first) (weight second) (l % 2)) → Shrunk n true v w (place n 0 0) (n * (n / 2)) b r → GainsAt n first second b r
+unfolding side16 side32 doubles long_doubles
+filtered-at t first second i j k l {v} {w} b r =
+    by-side t
+    (λ n. v ≡ tab n (λ l. either (double (pos first)) (double (pos second)) (l % 2)) → w ≡ tab n (λ l. either (weight first) (weight second) (l % 2)) → Shrunk n true v w (place n 0 0) (n * (n / 2)) b r → GainsAt n first second b r)
+    (λ V W all d.
+    pair-filtered side16 first second d.plane
+    (double-quads bins-fit quanta16 first second d.plane (record { above = i; v_most = k; small = small-bins d.first }) (record { above = j; v_most = l; small = small-bins d.second }) V W d.is (all.sure refl)) all.new all.new.paired.is d.is)
+    (λ V W all d.
+    pair-filtered side32 first second d.plane
+    (double-quads long-bins-fit quanta32 first second d.plane (record { above = i; v_most = k; small = long-small-bins d.first }) (record { above = j; v_most = l; small = long-small-bins d.second }) V W d.is (all.sure refl)) all.new all.new.paired.is d.is)

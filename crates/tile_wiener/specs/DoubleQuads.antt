@@ -1,6 +1,6 @@
 -- Inside the crates of the merge: a quad of G from that of B, with quotients in double, and where these leave no doubt of it. A side's quantum is 2^bits.
 use Rattle.std.specs.Prelude.{◌≡◌, ◌+◌, ◌*◌, ◌/◌, ◌≤◌, ◌<◌}
-use Rattle.tile_wiener.specs.Prelude.{Bool, true, List, ℕ, get_or, pos, Float, nan, binary64, of_int, cell, gains_by, SureBy, real_gain_by, number_of, bins_in, quad_in, Paired}
+use Rattle.tile_wiener.specs.Prelude.{Bool, true, List, ℕ, get_or, pos, Float, nan, binary64, of_int, cell, gains_by, SureBy, real_gain_by, number_of, bins_in, quad_in, bits_of, PairedOf}
 use Rattle.tile_quad.specs.Lanes.{quad_at_of, place_of, LanesOf}
 
 -- at V and W
@@ -25,10 +25,10 @@ pub record ShrunkOf (h bits : ℕ) (Pair : List (List Float) → Type 0) (s : Bo
   pub new : LanesOf h Pair (new_quad_by bits v w) m n b r
   pub sure : s ≡ true → SureQuadsOf h bits v w m n b
 
--- ---- for side 16
+-- ---- of a pair of side n, 32 or else 16
 
-abbrev pub new_quad : (v w : List Float) (u l : ℕ) → List Float → List Float
-new_quad = new_quad_by 24
+abbrev pub new_quad : (n : ℕ) (v w : List Float) (u l : ℕ) → List Float → List Float
+new_quad n = new_quad_by (bits_of n)
 
-abbrev pub Shrunk : (s : Bool) (v w : List Float) (m n : ℕ) (b r : List (List Float)) → Type 0
-Shrunk = ShrunkOf 8 24 (Paired nan)
+abbrev pub Shrunk : (n : ℕ) (s : Bool) (v w : List Float) (from below : ℕ) (b r : List (List Float)) → Type 0
+Shrunk n = ShrunkOf (n / 2) (bits_of n) (PairedOf n nan)

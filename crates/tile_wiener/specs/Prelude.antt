@@ -5,8 +5,8 @@ pub use Rattle.std.specs.Float.Ieee.{add, sub}
 pub use Rattle.std.specs.Float.{binary64, nan}
 unfoldable pub use Rattle.std.specs.Float.Ieee.{of_bits, of_int}
 pub use Rattle.sequences.specs.Grid.{cell}
-pub use Rattle.tile_spectrum.specs.Pairs.{GainsOf, Paired, either}
-unfoldable pub use Rattle.tile_spectrum.specs.Pairs.{doubles}
-pub use Rattle.tile_bin.specs.Doubles.{SureBy, gains_by, real_gain_by}
-pub use Rattle.tile_quad.specs.Lanes.{Lanes, number_of, quad_at, quad_in}
+pub use Rattle.tile_spectrum.specs.Pairs.{PairedOf, either}
+pub use Rattle.tile_bin.specs.Doubles.{bits_of, SureBy, gains_by, real_gain_by}
+pub use Rattle.tile_quad.specs.Lanes.{Lanes, number_of, place, quad_at, quad_in}
+pub use Rattle.tile_quad.specs.AtSide.{GainsAt, IsPair, noise_most_at}
 unfoldable pub use Rattle.tile_quad.specs.Lanes.{bins_in, corner_in, fold_in, folded_in}

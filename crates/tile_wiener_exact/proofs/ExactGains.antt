@@ -4,13 +4,20 @@ use Rattle.tile_wiener_exact.specs.Prelude.{sym, ap, subst, List, ℕ, arith, ge
 use mathlib.Core.List.{map}
 use Prim.Native.Nat.{zero-le}
 use Rattle.sequences.specs.Grid.{cell}
+use Rattle.geometry.specs.Fits.{TileSide}
 use Rattle.recipe.specs.Side.{Side}
+use Rattle.recipe.specs.Tables.{side16}
+use Rattle.recipe.specs.Tables32.{side32}
 use Rattle.tile_spectrum.specs.Spectrum.{quad_places, two_bins_of, folded_gain}
-use Rattle.tile_spectrum.specs.Pairs.{by_columns}
-use Rattle.tile_quad.specs.Lanes.{WholeBinsOf, quad_at_of}
-use Rattle.tile_quad.specs.QuadGains.{double, BinsFit, SmallBins, whole-bins, quad-gains}
-use Rattle.tile_quad.specs.FilterLaws.{by-plane, doubles_of, Gains, quad-of}
-use Rattle.tile_bin.specs.DoubleLaws.{Quanta}
+use Rattle.tile_spectrum.specs.Pairs.{doubles, by_columns}
+use Rattle.tile_spectrum.specs.LongPairs.{long_doubles}
+use Rattle.tile_quad.specs.Lanes.{WholeBinsOf, quad_at_of, quad_at, Lanes}
+use Rattle.tile_quad.specs.AtSide.{bin_most_at, BinnedAt, GainsAt}
+use Rattle.tile_quad.specs.AtSideLaws.{by-side}
+use Rattle.tile_quad.specs.QuadGains.{double, BinsFit, bins-fit, long-bins-fit, SmallBins, small-bins, long-small-bins, whole-bins, quad-gains}
+use Rattle.tile_quad.specs.FilterLaws.{by-plane, doubles_of, Gains, quad-of, pair-filtered}
+use Rattle.tile_bin.specs.Doubles.{bits_of}
+use Rattle.tile_bin.specs.DoubleLaws.{Quanta, quanta16, quanta32}
 use Rattle.tile_bin.specs.ExactLaws.{exact-gains-are}
 use Rattle.tile_wiener_exact.specs.ExactQuads.{exact_quad_by, new_exactly_by}
 
@@ -35,3 +42,19 @@ module _ {s : Side} {most : ℕ} (fit : BinsFit s most) where
 
     pub whole-quad : {b : List (List Float)} → b ≡ doubles_of s (by_columns t) → (u l : ℕ) → u < s.half → l < 2 * s.half → WholeBinsOf most (l / 2) u (quad_at_of s.half (cell nan b) u l)
     whole-quad e u l h k = subst (WholeBinsOf most (l / 2) u) (sym (quad-of s first second t e u l h k)) (whole-bins fit (t (l % 2)) (small_at l) (l / 2) u (omega arith) h)
+
+-- ---- of a side's bins
+
+pub whole-at : {n : ℕ} → TileSide n → (b : List (List Float)) → BinnedAt n b → (u l : ℕ) → u < n / 2 → l < n → WholeBinsOf (bin_most_at n) (l / 2) u (quad_at n (cell nan b) u l)
+unfolding side16 side32 doubles long_doubles
+whole-at t b =
+    by-side t (λ n. BinnedAt n b → (u l : ℕ) → u < n / 2 → l < n → WholeBinsOf (bin_most_at n) (l / 2) u (quad_at n (cell nan b) u l))
+    (λ w. whole-quad bins-fit 0 0 w.plane (small-bins w.first) (small-bins w.second) w.is)
+    (λ w. whole-quad long-bins-fit 0 0 w.plane (long-small-bins w.first) (long-small-bins w.second) w.is)
+
+pub filtered-at : {n : ℕ} → TileSide n → (first second : ℕ) (b r : List (List Float)) → Lanes n (new_exactly_by (bits_of n) first second) 0 (n * (n / 2)) b r → GainsAt n first second b r
+unfolding side16 side32 doubles long_doubles
+filtered-at t first second b r =
+    by-side t (λ n. Lanes n (new_exactly_by (bits_of n) first second) 0 (n * (n / 2)) b r → GainsAt n first second b r)
+    (λ all w. pair-filtered side16 first second w.plane (exact-quads bins-fit first second w.plane (small-bins w.first) (small-bins w.second) quanta16) all all.paired.is w.is)
+    (λ all w. pair-filtered side32 first second w.plane (exact-quads long-bins-fit first second w.plane (long-small-bins w.first) (long-small-bins w.second) quanta32) all all.paired.is w.is)

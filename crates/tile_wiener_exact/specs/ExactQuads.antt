@@ -9,11 +9,3 @@ exact_quad_by bits noise = quad_in (λ a. number_of (exact_gains_by bits noise a
 -- quad (u, l), at the noise numbers of both planes
 unfoldable pub new_exactly_by : (bits first second u l : ℕ) → List Float → List Float
 new_exactly_by bits first second u l = exact_quad_by bits (either first second (l % 2)) (l / 2) u
-
--- ---- for side 16
-
-abbrev pub exact_quad : (noise k u : ℕ) (q : List Float) → List Float
-exact_quad = exact_quad_by 24
-
-abbrev pub new_exactly : (first second u l : ℕ) → List Float → List Float
-new_exactly = new_exactly_by 24

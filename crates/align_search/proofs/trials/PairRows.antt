@@ -3,6 +3,7 @@ use Rattle.std.specs.Prelude.{◌≡◌, ◌+◌, ◌*◌, ◌≤◌, ◌<◌}
 use Rattle.align_search.specs.Trials.Prelude.{refl, ap, ap₂, subst, ◌∙◌, false, cond, List, ℕ, arith, leb, square_row}
 use Rattle.align_residual.specs.Local.{row_sum}
 use Rattle.align_residual.specs.SixteenLaws.{row_at}
+use Rattle.std.specs.declared.option.Option.TheVariants.{None}
 use Rattle.align_search.specs.declared.trials.Tried.{Tried}
 use Rattle.align_search.specs.Trials.Trial.{Left}
 use Rattle.align_search.specs.Trials.LeaveLaws.{Running, run-turn, run-left}
@@ -22,7 +23,7 @@ module _ (tile window : List ℕ) (start stride side a b : ℕ) {low most m i su
   pair_turn l k = run-turn w h refl (omega (arith, both-are)) (omega arith) k
 
   -- left in these rows, where the best is held as `limit`
-  pub pair_left : {limit upper : ℕ} {r : Tried} → limit ≡ low → limit ≤ sum + both → upper ≡ row_sum false tile window a b side → (r.best ≡ false) × (r.rows ≡ 2 * i + cond (leb limit (sum + upper)) 1 2) → Left low f (2 * m) r
+  pub pair_left : {limit upper : ℕ} {r : Tried} → limit ≡ low → limit ≤ sum + both → upper ≡ row_sum false tile window a b side → (r.least ≡ None) × (r.rows ≡ 2 * i + cond (leb limit (sum + upper)) 1 2) → Left low f (2 * m) r
   pair_left {upper = upper} {r = r} e l u x =
       run-left {both = sum + both} w h (ap (λ n. sum + n) (u ∙ upper_is)) (omega (arith, both-are, u, upper_is)) (omega (arith, e))
       (x.0, subst (λ b. r.rows ≡ 2 * i + cond (leb b (sum + upper)) 1 2) e x.1)

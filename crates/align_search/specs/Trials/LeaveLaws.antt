@@ -1,7 +1,8 @@
 -- What a loop by pairs of rows counts and answers, and one row by row.
 use Rattle.std.specs.Prelude.{◌≡◌, ◌+◌, ◌*◌, ◌≤◌, ◌<◌}
-use Rattle.align_search.specs.Trials.Prelude.{refl, sym, ap, subst, ◌∙◌, Bool, true, false, cond, ℕ, suc, arith, T, leb, sum_n}
+use Rattle.align_search.specs.Trials.Prelude.{refl, sym, ap, ◌∙◌, Bool, true, false, cond, ℕ, suc, arith, leb, sum_n}
 use Rattle.std.proofs.Common.{leb-true, leb-false}
+use Rattle.std.specs.declared.option.Option.TheVariants.{None, Some}
 use Rattle.align_search.specs.declared.trials.Tried.{Tried}
 use Rattle.align_search.specs.Trials.Rows.{rows}
 use Rattle.align_search.specs.Trials.RowLaws.{sums-grow, rows_left, rows_all}
@@ -41,12 +42,11 @@ module _ {best : ℕ} {f : ℕ → ℕ} {b m : ℕ} where
         }
 
     -- an offset that is left in these rows
-    pub run-left : {r : Tried} → best ≤ both → (r.best ≡ false) × (r.rows ≡ 2 * i + cond (leb best first) 1 2) → Left best f (2 * m) r
+    pub run-left : {r : Tried} → best ≤ both → (r.least ≡ None) × (r.rows ≡ 2 * i + cond (leb best first) 1 2) → Left best f (2 * m) r
     run-left {r} k a =
         record {
           rows_are = a.1 ∙ by (leb best first) refl;
-          whole = λ l. absurd (subst T a.0 (subst T (sym l) tt));
-          left = λ l. omega (arith, both_is, sums-grow f (suc (suc (2 * i))) (2 * m) (omega arith));
+          found = rw a.0 (omega (arith, both_is, sums-grow f (suc (suc (2 * i))) (2 * m) (omega arith)));
         }
       where
         by : (t : Bool) → leb best first ≡ t → 2 * i + cond t 1 2 ≡ rows best f (2 * m)
@@ -58,14 +58,13 @@ module _ {best : ℕ} {f : ℕ → ℕ} {b m : ℕ} where
             omega (arith, rows_left best f (2 * m) (suc (2 * i)) (omega arith) (λ p. omega (arith, first_is)) (omega (arith, both_is)))
 
   -- and one that is summed whole
-  pub run-done : {i sum : ℕ} {r : Tried} → Running best f b m i sum → m ≤ i → 0 < m → r.best ≡ true → r.total ≡ sum → r.rows ≡ 2 * m → Left best f (2 * m) r
-  run-done {i} {sum} {r} w h s u t n =
+  pub run-done : {i sum : ℕ} {r : Tried} → Running best f b m i sum → m ≤ i → 0 < m → r.least ≡ Some sum → r.rows ≡ 2 * m → Left best f (2 * m) r
+  run-done {i} {sum} {r} w h s t n =
       let e : sum ≡ sum_n (2 * m) f = w.is ∙ ap (λ n. sum_n n f) (omega (arith, w.count)) in
       let l = w.below (omega arith) in
       record {
         rows_are = n ∙ sym (rows_all best f (2 * m) (omega arith));
-        whole = λ h. (omega arith, t ∙ e);
-        left = λ h. absurd (subst T h (subst T (sym u) tt));
+        found = rw t (omega arith, e);
       }
 
 -- ---- row by row
@@ -91,21 +90,19 @@ module _ {best : ℕ} {f : ℕ → ℕ} {b n : ℕ} where
     row-turn l k = record { count = omega arith; is = total-is ∙ ap (λ n. sum_n n f) (omega arith); below = λ h. k; most = omega (arith, w.most) }
 
     -- an offset that is left in this row
-    pub row-left : {r : Tried} → best ≤ sum + v → (r.best ≡ false) × (r.rows ≡ i + 1) → Left best f n r
+    pub row-left : {r : Tried} → best ≤ sum + v → (r.least ≡ None) × (r.rows ≡ i + 1) → Left best f n r
     row-left {r} k a =
         record {
           rows_are = a.1 ∙ omega (arith, rows_left best f n i h (λ p. omega (arith, w.is, w.below (omega arith))) (omega (arith, total-is)));
-          whole = λ l. absurd (subst T a.0 (subst T (sym l) tt));
-          left = λ l. omega (arith, total-is, sums-grow f (suc i) n (omega arith));
+          found = rw a.0 (omega (arith, total-is, sums-grow f (suc i) n (omega arith)));
         }
 
   -- and one that is summed whole
-  pub row_done : {i sum : ℕ} {r : Tried} → Summing best f b n i sum → n ≤ i → 0 < n → r.best ≡ true → r.total ≡ sum → r.rows ≡ n → Left best f n r
-  row_done {i} {sum} {r} w h s u t o =
+  pub row_done : {i sum : ℕ} {r : Tried} → Summing best f b n i sum → n ≤ i → 0 < n → r.least ≡ Some sum → r.rows ≡ n → Left best f n r
+  row_done {i} {sum} {r} w h s t o =
       let e : sum ≡ sum_n n f = w.is ∙ ap (λ k. sum_n k f) (omega (arith, w.count)) in
       let l = w.below (omega arith) in
       record {
         rows_are = o ∙ sym (rows_all best f n (omega arith));
-        whole = λ h. (omega arith, t ∙ e);
-        left = λ h. absurd (subst T h (subst T (sym u) tt));
+        found = rw t (omega arith, e);
       }

@@ -1,6 +1,6 @@
 -- Inner vocabulary: where an offset is tried, and what that gives.
-use Rattle.std.specs.Prelude.{◌≡◌, ◌+◌, ◌*◌, ◌≤◌, ◌<◌}
-use Rattle.align_search.specs.Trials.Prelude.{true, false, List, ℕ, sum_n, Compared}
+use Rattle.std.specs.Prelude.{◌≡◌, ◌+◌, ◌*◌, ◌≤◌, ◌<◌, MatchOption}
+use Rattle.align_search.specs.Trials.Prelude.{List, ℕ, sum_n, Compared}
 use Rattle.align_search.specs.declared.trials.Tried.{Tried}
 use Rattle.align_search.specs.Trials.Rows.{rows}
 
@@ -10,8 +10,7 @@ pub record InWindow (tile window : List ℕ) (side y x : ℕ) : Type 0 where
   pub vertical : y ≤ 8
   pub sideways : x ≤ 8
 
--- an offset whose n rows have the sums f was tried against low: the rows that the rule counts, and the total where it is below low
+-- an offset whose n rows have the sums f was tried against low: the rows that the rule counts, and the total, or none where it has reached low
 pub record Left (low : ℕ) (f : ℕ → ℕ) (n : ℕ) (r : Tried) : Type 0 where
   pub rows_are : r.rows ≡ rows low f n
-  pub whole : r.best ≡ true → (r.total < low) × (r.total ≡ sum_n n f)
-  pub left : r.best ≡ false → low ≤ sum_n n f
+  pub found : MatchOption r.least (low ≤ sum_n n f) (λ total. (total < low) × (total ≡ sum_n n f))

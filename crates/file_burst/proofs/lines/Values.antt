@@ -5,8 +5,10 @@ use native.Mathlib.Numerals.{sub-one}
 use Rattle.refusals.specs.Numbers as no
 use Rattle.file_burst.specs.Lines.Part.{Part, refused, found, unless, mapped}
 use Rattle.file_burst.specs.Lines.Line.{last, item_of, after_item, values_of, has_lf, line_end, value_line, above}
-use Rattle.file_burst.specs.Lines.Scan.{line_in, ended_line, judged}
-use Rattle.file_burst.specs.declared.lines.Line.TheVariants.{Found, Refused}
+use Rattle.file_burst.specs.Lines.Scan.{line_in, malformed_line, ended_line, judged}
+use Rattle.std.specs.Prelude.{Result, Ok}
+use Rattle.refusals.specs.declared.Refusal.{Refusal}
+use Rattle.file_burst.specs.declared.lines.Line.{Line}
 use Rattle.file_burst.specs.Lines.Grammar.{ValueLine}
 use Rattle.file_burst.specs.Lines.LineLaws.{values-sound, line-lf}
 use Rattle.file_burst.specs.Lines.PartLaws.{Sound, found-refused}
@@ -32,11 +34,14 @@ judged-last a bound v rest = ap (λ (o : Bool). found o rest) (or-false a (ltb b
     or-false false true = refl
     or-false false false = refl
 
+abbrev ended : (next : ℕ) (over : Bool) → Result Line Refusal
+ended next over = Ok (record { next = next; over = over })
+
 -- the judgement of a line that ends with this value
 pub judged-end : (left next : ℕ) (a : Bool) (bound v : ℕ) (file : List ℕ) (others : List ℕ → Part (List ℕ)) → line_in file (ended_line left next (a || ltb bound v)) ≡ judged a bound (after_item left others (last v (drop next file)))
 judged-end left next a bound v file others = from (eqb left 0)
   where
-    from : (none : Bool) → line_in file (cond none (Found next (a || ltb bound v)) (Refused no.wrong_value_line)) ≡ judged a bound (cond none (found (v ∷ []) (drop next file)) (refused no.wrong_value_line))
+    from : (none : Bool) → line_in file (cond none (ended next (a || ltb bound v)) malformed_line) ≡ judged a bound (cond none (found (v ∷ []) (drop next file)) (refused no.wrong_value_line))
     from true = judged-last a bound v (drop next file)
     from false = refl
 

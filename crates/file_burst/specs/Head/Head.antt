@@ -1,13 +1,14 @@
 -- The first two lines: the names, and the seven values with their tests.
 use Rattle.file_burst.specs.Head.Prelude.{Bool, true, false, cond, not, List, [], ℕ, length, get_or, drop, refuse, first, Part, refused, found, unless, ◌then◌, line_end, value_line}
-use Rattle.std.specs.Prelude.{eqb, ◌∷◌, ◌++◌}
+use Rattle.std.specs.Prelude.{eqb, Result, Ok, Err, ◌∷◌, ◌++◌}
 use Rattle.refusals.specs.Numbers as no
 use Rattle.geometry.specs.Shape.{shaped, reference_refusal}
 use Rattle.admit_length.specs.Order.{shape_tests}
 use Rattle.noise.specs.Levels.{level_refusal, strength_refusal}
 use Rattle.file_burst.specs.Head.Names.{names}
+use Rattle.refusals.specs.declared.Refusal.{Refusal}
+use Rattle.refusals.specs.Refused.{refusal_number}
 use Rattle.file_burst.specs.declared.head.Head.{Head}
-use Rattle.file_burst.specs.declared.head.Head.TheVariants.{Found, Refused}
 use Rattle.file_burst.specs.declared.head.Header.{Header}
 
 -- the bytes begin with the text
@@ -51,6 +52,6 @@ unfoldable pub head_of : List ℕ → Part Header
 head_of file = unless (first_line_refusal file) (value_line 7 (drop (length names) file) then tested)
 
 -- what `read_head` answers, which holds a position, as the bytes from there on
-abbrev pub head_in : List ℕ → Head → Part Header
-head_in file (Found header next) = found header (drop next file)
-head_in file (Refused number) = refused number
+abbrev pub head_in : List ℕ → Result Head Refusal → Part Header
+head_in file (Ok head) = found head.header (drop head.next file)
+head_in file (Err refusal) = refused (refusal_number refusal)

@@ -19,7 +19,7 @@ use Rattle.file_burst.specs.Head.Names.{names}
 use Rattle.file_burst.specs.Head.Grammar.{seven_of}
 use Rattle.file_burst.specs.Head.Head.{starts_with, first_line_refusal, header_of, header_refusal, tested, head_of}
 
-starts-sound : (text s : List ℕ) → starts_with text s ≡ true → s ≡ text ++ drop (length text) s
+pub starts-sound : (text s : List ℕ) → starts_with text s ≡ true → s ≡ text ++ drop (length text) s
 unfolding starts_with
 starts-sound [] s e = refl
 starts-sound (byte ∷ text) [] e = absurd (false≢true e)
@@ -29,7 +29,7 @@ starts-sound (byte ∷ text) (b ∷ s) e = from (eqb b byte) refl (starts-sound 
     from true p again e = ap (λ (y : ℕ). y ∷ s) (eqb-true b byte p) ∙ ap (λ (t : List ℕ). byte ∷ t) (again e)
     from false p again e = absurd (false≢true e)
 
-starts-complete : (text s : List ℕ) → starts_with text (text ++ s) ≡ true
+pub starts-complete : (text s : List ℕ) → starts_with text (text ++ s) ≡ true
 unfolding starts_with
 starts-complete [] s = refl
 starts-complete (byte ∷ text) s = rw (eq-eqb byte byte refl) (starts-complete text s)

@@ -1,6 +1,9 @@
 -- What holds of a part wherever it is found. A refusal's number is never 0.
 use Rattle.std.specs.Prelude.{◌≡◌}
 use Rattle.file_burst.specs.Lines.Prelude.{refl, sym, ap, subst, List, ℕ, zero, suc, arith}
+use Rattle.refusals.specs.declared.Refusal.{Refusal}
+use Rattle.refusals.specs.Refused as code
+use Rattle.refusals.specs.RefusedLaws.{some-number}
 use Rattle.file_burst.specs.Lines.Part.{Part, refused, found, unless, number_of, ◌then◌, mapped}
 
 abbrev pub Sound : {A : Type 0} → (A → List ℕ → Type 0) → Part A → Type 0
@@ -40,6 +43,10 @@ module _ {A : Type 0} (part : Part A) where
 
   pub unless-goes : {r a : ℕ} → r ≡ a → r ≡ 0 → part ≡ unless a part
   unless-goes {a = a} e z = let passed : a ≡ 0 = omega arith in rw passed
+
+-- a refusal's number ahead of a part
+pub unless-refused : {A : Type 0} (refusal : Refusal) {a : ℕ} (part : Part A) → code.refusal_number refusal ≡ a → refused (code.refusal_number refusal) ≡ unless a part
+unless-refused refusal part e = unless-stops part e (λ z. let some = some-number refusal in absurd (omega (arith, z, some)))
 
 pub number-mapped : {A B : Type 0} (f : A → B) (part : Part A) → number_of (mapped f part) ≡ number_of part
 number-mapped f (refused number) = refl

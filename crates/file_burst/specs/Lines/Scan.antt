@@ -1,31 +1,37 @@
 -- Inner vocabulary, which no public contract reaches: the answers of the functions that scan the bytes of a file, which hold positions, as what stands at
 -- those positions.
-use Rattle.std.specs.Prelude.{◌||◌, ◌∷◌}
+use Rattle.std.specs.Prelude.{Option, Some, None, Result, Ok, Err, ◌||◌, ◌∷◌}
 use Rattle.file_burst.specs.Lines.Prelude.{Bool, cond, List, [], ℕ, zero, suc, eqb, drop}
-use Rattle.refusals.specs.Numbers as no
 use Rattle.file_burst.specs.Lines.Line.{Item, last, more, bad, item_of, above}
 use Rattle.file_burst.specs.Lines.Part.{Part, refused, found, mapped}
+use Rattle.refusals.specs.declared.Refusal.{Refusal}
+use Rattle.refusals.specs.declared.Refusal.TheVariants.{ValueLine}
+use Rattle.refusals.specs.Refused.{refusal_number}
 use Rattle.file_burst.specs.declared.lines.Line.{Line}
-use Rattle.file_burst.specs.declared.lines.Line.TheVariants.{Found as FoundLine, Refused as RefusedLine}
 use Rattle.file_burst.specs.declared.lines.Scan.{Scan}
-use Rattle.file_burst.specs.declared.lines.Scan.TheVariants.{Last, More, Bad}
+use Rattle.file_burst.specs.declared.lines.Scan.TheVariants.{Last, More}
 
-abbrev pub item_in : List ℕ → Scan → Item
-item_in file (Last value next) = last value (drop next file)
-item_in file (More value next) = more value (drop next file)
-item_in file Bad = bad
+-- a digit's number, or 10 for any other byte
+abbrev pub digit_in : Option ℕ → ℕ
+digit_in (Some digit) = digit
+digit_in None = 10
+
+abbrev pub item_in : List ℕ → Option Scan → Item
+item_in file (Some (Last v)) = last v.value (drop v.next file)
+item_in file (Some (More v)) = more v.value (drop v.next file)
+item_in file None = bad
 
 -- of a line, whether a value is above the bound
-abbrev pub line_in : List ℕ → Line → Part Bool
-line_in file (FoundLine next over) = found over (drop next file)
-line_in file (RefusedLine number) = refused number
+abbrev pub line_in : List ℕ → Result Line Refusal → Part Bool
+line_in file (Ok line) = found line.over (drop line.next file)
+line_in file (Err refusal) = refused (refusal_number refusal)
 
-abbrev pub malformed_line : Line
-malformed_line = RefusedLine no.wrong_value_line
+abbrev pub malformed_line : Result Line Refusal
+malformed_line = Err ValueLine
 
 -- a line that has ended, where `left` of its values have not come
-abbrev pub ended_line : (left next : ℕ) (over : Bool) → Line
-ended_line left next over = cond (eqb left 0) (FoundLine next over) malformed_line
+abbrev pub ended_line : (left next : ℕ) (over : Bool) → Result Line Refusal
+ended_line left next over = cond (eqb left 0) (Ok (record { next = next; over = over })) malformed_line
 
 -- of the values of a line, whether one is above the bound or `already` stands
 abbrev pub judged : (already : Bool) (bound : ℕ) → Part (List ℕ) → Part Bool

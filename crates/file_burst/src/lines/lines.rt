@@ -2,79 +2,67 @@
 ghost use Rattle.std.specs.Prelude.{◌≡◌, ◌||◌};
 ghost use Rattle.file_burst.specs.Lines.Prelude.{false, ltb, drop};
 ghost use Rattle.file_burst.specs.Lines.Line.{values_of, value_line};
-ghost use Rattle.file_burst.specs.Lines.Scan.{line_in, malformed_line, ended_line, judged};
+ghost use Rattle.file_burst.specs.Lines.Scan.{line_in, ended_line, judged};
 
 use crate::lines::scanning::{has_lf, next_value};
 use crate::lines::{Line, Scan};
+use refusals::Refusal;
 
 // Some value so far, or this one, is above the bound.
 fn or_above(already: bool, bound: u64, value: u64) -> bool
     ensures { result ≡ (already || ltb bound value) }
 {
-    if already {
-        return true;
-    }
-    bound < value
-}
-
-// Refusal 14 of a line.
-fn malformed() -> Line
-    ensures { result ≡ malformed_line }
-{
-    Line::Refused {
-        number: refusals::VALUE_LINE,
-    }
+    already || bound < value
 }
 
 // The LF of a line has come, and `left` of its values have not.
-fn end_line(left: usize, next: usize, over: bool) -> Line
+fn end_line(left: usize, next: usize, over: bool) -> Result<Line, Refusal>
     ensures { result ≡ ended_line left next over }
 {
     if left != 0 {
-        return malformed();
+        return Err(Refusal::ValueLine);
     }
-    Line::Found { next, over }
+    Ok(Line { next, over })
 }
 
 // The line's values alone: a line without its LF counts as malformed.
-fn scan_line(file: &[u8], at: usize, count: usize, bound: u64) -> Line
+fn scan_line(file: &[u8], at: usize, count: usize, bound: u64) -> Result<Line, Refusal>
     ensures { line_in file.now result ≡ judged false bound (values_of count (drop at file.now)) }
 {
-    let mut left = count;
     let mut i = at;
     let mut over = false;
-    while 0 < left {
-        left -= 1;
+    for k in 0..count {
         match next_value(file, i) {
-            Scan::Bad => {
-                return malformed();
+            None => {
+                return Err(Refusal::ValueLine);
             }
-            Scan::Last { value, next } => {
-                let any = or_above(over, bound, value);
-                return end_line(left, next, any);
+            Some(Scan::Last(found)) => {
+                return end_line(
+                    count - k - 1,
+                    found.next,
+                    or_above(over, bound, found.value),
+                );
             }
-            Scan::More { value, next } => {
-                over = or_above(over, bound, value);
-                i = next;
+            Some(Scan::More(found)) => {
+                over = or_above(over, bound, found.value);
+                i = found.next;
             }
         }
     }
-    malformed()
+    Err(Refusal::ValueLine)
 }
 
 // A line of `count` values, and whether one is above the bound: 15, then 14. An LF is looked for only where the values end without one.
-pub fn check_line(file: &[u8], at: usize, count: usize, bound: u64) -> Line
+pub fn check_line(file: &[u8], at: usize, count: usize, bound: u64) -> Result<Line, Refusal>
     ensures { line_in file.now result ≡ judged false bound (value_line count (drop at file.now)) }
 {
     match scan_line(file, at, count, bound) {
-        Line::Found { next, over } => Line::Found { next, over },
-        Line::Refused { number } => {
+        Ok(line) => Ok(line),
+        Err(refusal) => {
             if has_lf(file, at) {
-                return Line::Refused { number };
+                return Err(refusal);
             }
-            Line::Refused {
-                number: refusals::FILE_END,
-            }
+            Err(Refusal::FileEnd)
         }
     }
 }

@@ -1,6 +1,7 @@
 // Which tag is at fault beside 19, 20 and 21.
 ghost use Rattle.std.specs.Prelude.{◌≡◌};
-ghost use Rattle.file_dng.specs.Tags.Prelude.{entries, refuse};
+ghost use Rattle.refusals.specs.Refused.{refusal_number};
+ghost use Rattle.file_dng.specs.Tags.Prelude.{entries, refuse, ◌before◌};
 ghost use Rattle.file_dng.specs.Tags.Tags.{tag_at};
 ghost use Rattle.file_dng.specs.Tags.RowTests.{row_hit, row_tag};
 ghost use Rattle.file_dng.specs.Tags.Faults.{first_of, structure_fault, count_fault, value_fault, fault_tag};
@@ -9,7 +10,7 @@ use crate::tags::tags::{STRIP_BYTE_COUNTS, STRIP_OFFSETS, demand, demanded, list
 use crate::tags::tests::{RowTest, hit, size_differs, strip_outside};
 use crate::tiff::directory::{directory_outside, header_wrong};
 use geometry::Shape;
-use refusals::{DNG_STRUCTURE, DNG_TAG, DNG_VALUE, first, refuse};
+use refusals::Refusal;
 
 // The number of the tag at a row of the table.
 fn tag_at(row: usize) -> u64
@@ -34,17 +35,29 @@ fn row_tag(test: RowTest, row: usize) -> u64
     }
 }
 
+// The tag where the condition holds, else 0.
+fn tag_where(tag: u64, condition: bool) -> u64
+    ensures { result ≡ refuse tag condition }
+{
+    if condition { tag } else { 0 }
+}
+
+// The first of two tags that is not 0.
+fn before(tag: u64, other: u64) -> u64
+    ensures { result ≡ (tag before other) }
+{
+    if tag != 0 { tag } else { other }
+}
+
 // The tag of the first of `rows` rows that a test hits, or 0.
 fn first_hit(test: RowTest, file: &[u8], rows: usize) -> u64
     ensures { result ≡ first_of rows (λ row. refuse (row_tag test row) (row_hit test file.now (entries file.now) row)) }
 {
-    let mut row = 0;
-    while row < rows {
-        let found = refuse(row_tag(test, row), hit(test, file, row));
+    for row in 0..rows {
+        let found = tag_where(row_tag(test, row), hit(test, file, row));
         if found != 0 {
             return found;
         }
-        row += 1;
     }
     0
 }
@@ -60,8 +73,8 @@ fn structure_fault(file: &[u8]) -> u64
         return 0;
     }
     let value = first_hit(RowTest::Outside, file, listed(file));
-    let strip = refuse(tag_at(STRIP_OFFSETS), strip_outside(file));
-    first(&[value, strip])
+    let strip = tag_where(tag_at(STRIP_OFFSETS), strip_outside(file));
+    before(value, strip)
 }
 
 // Beside 21, for a burst of the file's own size: of the sizes only the strip's can differ.
@@ -69,23 +82,19 @@ fn value_fault(file: &[u8], shape: Shape) -> u64
     ensures { result ≡ value_fault file.now (entries file.now) shape }
 {
     let absent = first_hit(RowTest::Absent, file, listed(file));
-    let strip = refuse(tag_at(STRIP_BYTE_COUNTS), size_differs(file, shape));
+    let strip = tag_where(tag_at(STRIP_BYTE_COUNTS), size_differs(file, shape));
     let missed = first_hit(RowTest::Missed, file, demanded(file));
-    first(&[absent, strip, missed])
+    before(absent, before(strip, missed))
 }
 
-// The tag at fault beside a number, or 0.
-pub fn fault_tag(number: u64, file: &[u8], shape: Shape) -> u64
-    ensures { result ≡ fault_tag number file.now (entries file.now) shape }
+// The tag at fault beside a refusal, or 0.
+pub fn fault_tag(refusal: Refusal, file: &[u8], shape: Shape) -> u64
+    ensures { result ≡ fault_tag (refusal_number refusal) file.now (entries file.now) shape }
 {
-    if number == DNG_STRUCTURE {
-        return structure_fault(file);
+    match refusal {
+        Refusal::DngStructure => structure_fault(file),
+        Refusal::DngTag => first_hit(RowTest::NotOnce, file, listed(file)),
+        Refusal::DngValue => value_fault(file, shape),
+        _ => 0,
     }
-    if number == DNG_TAG {
-        return first_hit(RowTest::NotOnce, file, listed(file));
-    }
-    if number == DNG_VALUE {
-        return value_fault(file, shape);
-    }
-    0
 }

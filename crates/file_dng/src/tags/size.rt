@@ -23,19 +23,18 @@ pub fn dng_size(file: &[u8]) -> DngSize
     ensures { result ≡ dng_size file.now (entries file.now) }
 {
     let shape = lone_shape(file);
-    let number = tag_refusal(file, shape);
-    if number != 0 {
-        return DngSize {
-            refusal: number,
-            tag: fault_tag(number, file, shape),
+    match tag_refusal(file, shape) {
+        Ok(()) => DngSize {
+            refusal: 0,
+            tag: 0,
+            width: shape.width as u64,
+            height: shape.height as u64,
+        },
+        Err(refusal) => DngSize {
+            refusal: refusal.number(),
+            tag: fault_tag(refusal, file, shape),
             width: 0,
             height: 0,
-        };
-    }
-    DngSize {
-        refusal: 0,
-        tag: 0,
-        width: shape.width as u64,
-        height: shape.height as u64,
+        },
     }
 }

@@ -1,5 +1,6 @@
 // The tests of the file's structure, tags and values: 19, 20 and 21.
 ghost use Rattle.std.specs.Prelude.{◌≡◌, ◌<◌};
+ghost use Rattle.refusals.specs.Refused.{answer_of};
 ghost use Rattle.file_dng.specs.Tags.Prelude.{entries, first, some};
 ghost use Rattle.file_dng.specs.Tags.Refusals.{absent, value_of, value_outside, not_once, demand_missed, strip_start, strip_length, strip_outside, outside, size_differs, otherwise, tag_tests};
 ghost use Rattle.file_dng.specs.Tags.RowTests.{row_hit};
@@ -10,7 +11,7 @@ use crate::tags::tags::{
 use crate::tiff::directory::{directory_outside, header_wrong, times};
 use crate::tiff::fields::{field, field_outside, value};
 use geometry::Shape;
-use refusals::{DNG_STRUCTURE, DNG_TAG, DNG_VALUE, first, refuse};
+use refusals::{Refusal, refuse};
 
 // A test of a row: of the table of tags, or of the second table (`Missed`).
 #[derive(Clone, Copy)]
@@ -89,43 +90,33 @@ pub fn hit(test: RowTest, file: &[u8], row: usize) -> bool
 fn some_hit(test: RowTest, file: &[u8], rows: usize) -> bool
     ensures { result ≡ some rows (λ row. row_hit test file.now (entries file.now) row) }
 {
-    let mut row = 0;
-    while row < rows {
+    for row in 0..rows {
         if hit(test, file, row) {
             return true;
         }
-        row += 1;
     }
     false
 }
 
 // The strip reaches past the end of the file.
+#[tactic(auto, unfolding(crate::specs::Tags::Refusals::strip_outside))]
 pub fn strip_outside(file: &[u8]) -> bool
     ensures { result ≡ strip_outside file.now (entries file.now) }
 {
-    if absent(file, STRIP_OFFSETS) {
-        return false;
-    }
-    if absent(file, STRIP_BYTE_COUNTS) {
-        return false;
-    }
-    file.len() < strip_start(file) + strip_length(file)
+    !absent(file, STRIP_OFFSETS)
+        && !absent(file, STRIP_BYTE_COUNTS)
+        && file.len() < strip_start(file) + strip_length(file)
 }
 
 // The condition of 19.
+#[tactic(auto, unfolding(crate::specs::Tags::Refusals::outside))]
 fn outside(file: &[u8]) -> bool
     ensures { result ≡ outside file.now (entries file.now) }
 {
-    if header_wrong(file) {
-        return true;
-    }
-    if directory_outside(file) {
-        return true;
-    }
-    if some_hit(RowTest::Outside, file, listed(file)) {
-        return true;
-    }
-    strip_outside(file)
+    header_wrong(file)
+        || directory_outside(file)
+        || some_hit(RowTest::Outside, file, listed(file))
+        || strip_outside(file)
 }
 
 // The sizes, and the strip's length. The product is formed once both sizes are known to be LONGs.
@@ -146,24 +137,22 @@ pub fn size_differs(file: &[u8], shape: Shape) -> bool
 }
 
 // The condition of 21.
+#[tactic(auto, unfolding(crate::specs::Tags::Refusals::otherwise))]
 fn otherwise(file: &[u8], shape: Shape) -> bool
     ensures { result ≡ otherwise file.now (entries file.now) shape }
 {
-    if some_hit(RowTest::Absent, file, listed(file)) {
-        return true;
-    }
-    if size_differs(file, shape) {
-        return true;
-    }
-    some_hit(RowTest::Missed, file, demanded(file))
+    some_hit(RowTest::Absent, file, listed(file))
+        || size_differs(file, shape)
+        || some_hit(RowTest::Missed, file, demanded(file))
 }
 
 // Tests 19, 20 and 21.
-pub fn tag_refusal(file: &[u8], shape: Shape) -> u64
-    ensures { result ≡ first (tag_tests file.now (entries file.now) shape) }
+#[tactic(auto, using(refusals::specs::RefusedLaws::refuses), unfolding(refusals::specs::Tests::first, crate::specs::Tags::Refusals::tag_tests))]
+pub fn tag_refusal(file: &[u8], shape: Shape) -> Result<(), Refusal>
+    ensures { answer_of result ≡ first (tag_tests file.now (entries file.now) shape) }
 {
-    let structure = refuse(DNG_STRUCTURE, outside(file));
-    let tags = refuse(DNG_TAG, some_hit(RowTest::NotOnce, file, listed(file)));
-    let values = refuse(DNG_VALUE, otherwise(file, shape));
-    first(&[structure, tags, values])
+    let rows = listed(file);
+    refuse(Refusal::DngStructure, outside(file))?;
+    refuse(Refusal::DngTag, some_hit(RowTest::NotOnce, file, rows))?;
+    refuse(Refusal::DngValue, otherwise(file, shape))
 }

@@ -1,6 +1,5 @@
 // The header and the first directory.
-ghost use Rattle.std.specs.Prelude.{◌≡◌, ◌<◌, ◌≤◌};
-ghost use Rattle.algebra.specs.Prelude.{cond};
+ghost use Rattle.std.specs.Prelude.{◌≡◌, ◌<◌};
 ghost use Rattle.file_dng.specs.Tiff.Directory.{header_wrong, directory_start, entry_count, directory_outside, times_of, entries};
 ghost use Rattle.file_dng.specs.Tiff.Fits.{EntryRead};
 
@@ -55,13 +54,6 @@ pub fn entry_at(file: &[u8], at: usize) -> Entry
     }
 }
 
-// 1 where the condition holds, else 0.
-fn one_if(condition: bool) -> usize
-    ensures { (result ≡ cond condition 1 0) × (result ≤ 1) }
-{
-    if condition { 1 } else { 0 }
-}
-
 // How many entries have the tag.
 pub fn times(file: &[u8], tag: usize) -> usize
     ensures { result ≡ times_of tag (entries file.now) }
@@ -69,11 +61,9 @@ pub fn times(file: &[u8], tag: usize) -> usize
     let start = directory_start(file) + 2;
     let count = entry_count(file);
     let mut seen = 0;
-    let mut i = 0;
-    while i < count {
+    for i in 0..count {
         let found = short_at(file, start + 12 * i);
-        seen += one_if(found == tag);
-        i += 1;
+        seen += usize::from(found == tag);
     }
     seen
 }

@@ -49,13 +49,11 @@ pub fn field(file: &[u8], wanted: Wanted) -> Field
 {
     let start = directory_start(file) + 2;
     let count = entry_count(file);
-    let mut i = 0;
-    while i < count {
+    for i in 0..count {
         let entry = entry_at(file, start + 12 * i);
         if right(wanted, entry) {
             return field_at(file, entry);
         }
-        i += 1;
     }
     Field { size: 0, at: 0 }
 }

@@ -27,21 +27,16 @@ pub fn leading(bytes: &[u8], at: usize) -> usize
 {
     let mut value: usize = 0;
     let mut i = at;
-    let mut left: usize = 4;
-    while 0 < left {
+    for _ in 0..4usize {
         if bytes.len() <= i {
             return value;
         }
         let byte = bytes[i];
-        if byte < b'0' {
+        if byte < b'0' || b'9' < byte {
             return value;
         }
-        if b'9' < byte {
-            return value;
-        }
-        value = value * 10 + (byte - b'0') as usize;
+        value = value * 10 + usize::from(byte - b'0');
         i += 1;
-        left -= 1;
     }
     value
 }

@@ -1,0 +1,13 @@
+use Rattle.algebra.specs.Prelude.{◌∙◌, arith}
+use Rattle.sequences.specs.Sum.{sum-start, sum-turn}
+use Rattle.align_residual.specs.SixteenLaws.{four-rows, eight-done}
+use Rattle.align_residual.proofs.sixteen.absolute_pair.Goals as goal
+
+pub loop-j-init : goal.loop-j-init
+loop-j-init g c = sum-start
+
+pub loop-j-preserved : goal.loop-j-preserved
+loop-j-preserved g c = sum-turn c.loop-j.invariant (omega arith) (c.wide-sum.ensures.0 ∙ c.four.ensures.0) c.wide-sum.ensures.1
+
+pub returns : goal.returns
+returns g c = eight-done c.loop-j.invariant (omega arith) (four-rows c.args.tile.now c.args.window.now c.args.a c.args.b g.row.STEP)

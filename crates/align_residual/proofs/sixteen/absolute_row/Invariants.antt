@@ -1,0 +1,8 @@
+-- One sum over eight pairs of samples.
+use Rattle.std.specs.Prelude.{◌+◌}
+use Rattle.sequences.specs.Sum.{Summed}
+use Rattle.align_residual.specs.Local.{beside_sum}
+use Rattle.align_residual.proofs.sixteen.absolute_row.Given as goal
+
+abbrev pub invariant-loop-j : goal.invariant-loop-j
+invariant-loop-j l = Summed (λ k. beside_sum l.tile l.window (l.a + k) (l.b + k)) 65535 8 l.j l.sum

@@ -1,0 +1,5 @@
+-- `c_api::band::stacker_merge_band`: shape, noise and tuning are those that the descriptions stand for.
+use Rattle.c_api.proofs.band.stacker_merge_band.Goals as goal
+
+pub returns : goal.returns
+returns c = rw (c.shape_of.ensures, c.measured.ensures, c.tuned.ensures, ← c.answer.ensures) at c.merge_band.ensures

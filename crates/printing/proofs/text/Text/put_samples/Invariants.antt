@@ -1,0 +1,8 @@
+-- What is left is the line of the values from k on.
+use Rattle.std.proofs.Common.{◌≤◌, drop, length}
+use Rattle.printing.specs.Lines.{number_line}
+use Rattle.printing.proofs.Lining.{Putting}
+use Rattle.printing.proofs.text.Text.put_samples.Given as goal
+
+abbrev pub invariant-loop-k : goal.invariant-loop-k
+invariant-loop-k g l = Putting l.fn.self (number_line l.samples) l.self (number_line (drop l.k l.samples)) × (l.k ≤ length l.samples)

@@ -1,0 +1,6 @@
+use Rattle.std.proofs.Common.{rules, ◌≡◌}
+use Rattle.algebra.specs.Prelude.{w16, to_z, of_z}
+use Rattle.tile_lines.proofs.whole.fn.differences.from_fn+FnOnce.call_once.Goals as goal
+
+pub returns : goal.returns
+returns g c = let e : to_z w16 (of_z w16 c.from_fn.result) ≡ c.from_fn.result = search rules in let f = c.from_fn.ensures in search rules
