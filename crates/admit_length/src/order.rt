@@ -10,15 +10,14 @@ use crate::lengths::{
 };
 use admit_size::{count_refusal, reference_refusal, row_refusal, side_refusal, size_refusal};
 use geometry::Shape;
-use refusals::Refusal;
+use refusals::{Refusal, first};
 
 // Tests 1 and 2.
-#[tactic(auto, using(refusals::specs::RefusedLaws::refuses), unfolding(refusals::specs::Tests::first, crate::specs::Order::shape_tests))]
+#[tactic(auto, unfolding(refusals::specs::Tests::first, crate::specs::Order::shape_tests))]
 pub fn shape_refusal(shape: Shape) -> Result<(), Refusal>
     ensures { answer_of result ≡ first (shape_tests shape) }
 {
-    size_refusal(shape)?;
-    count_refusal(shape)
+    first(&[size_refusal(shape), count_refusal(shape)])
 }
 
 // Tests 1 to 3, and 23: of frames that no tiles are laid on.

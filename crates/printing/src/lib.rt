@@ -1,7 +1,7 @@
 // The texts that the programs print.
 #![tactic(auto)]
 
-mod lines;
+pub mod lines;
 pub mod pieces;
 mod text;
 

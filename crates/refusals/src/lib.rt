@@ -1,6 +1,8 @@
 // Refused inputs: the kinds of document 01's table and of the requests, their numbers, and the first test that refuses.
 #![tactic(auto)]
 
+pub mod numbers;
+
 ghost use Rattle.std.specs.Prelude.{◌≡◌, map};
 ghost use Rattle.refusals.specs.Refused.{refusal_number, answer_of};
 ghost use Rattle.refusals.specs.Tests.{refuse, first};

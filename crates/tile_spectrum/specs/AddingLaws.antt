@@ -40,14 +40,17 @@ module _ {f : ℕ → ℤ} {n l b : ℕ} {s t : List ℤ} {r : ℤ} (i : Filled 
   unset : get_or t l (pos 0) ≡ get_or s l (pos 0)
   unset = fill-rest i h (pos 0)
 
-  sum-most : nat_abs (get_or t l (pos 0)) + nat_abs r < 2 ^ 63
-  sum-most = let a = subst (AtMost (2 ^ 40)) (sym unset) (line_at m l) in omega (arith, a.most, k.most, ltb_yes v)
+  sum-most : AtMost (2 ^ 40) (get_or t l (pos 0))
+  sum-most = subst (AtMost (2 ^ 40)) (sym unset) (line_at m l)
+
+  both-below : nat_abs (get_or t l (pos 0)) + nat_abs r < 2 ^ 63
+  both-below = omega (arith, sum-most.most, k.most, ltb_yes v)
 
   pub adding-fits : SFits w64 (to_z w64 (of_z w64 (get_or t l (pos 0))) +ℤ to_z w64 (of_z w64 r))
-  adding-fits = sum-fits (get_or t l (pos 0)) r sum-most
+  adding-fits = sum-fits (get_or t l (pos 0)) r both-below
 
   pub adding-turn : get_or s l (pos 0) +ℤ r ≡ f l → Filled f n (l + 1) s (set t l (to_z w64 (of_z w64 (to_z w64 (of_z w64 (get_or t l (pos 0))) +ℤ to_z w64 (of_z w64 r)))))
-  adding-turn e = fill-turn i h (sum-is (get_or t l (pos 0)) r sum-most ∙ ap (λ z. z +ℤ r) unset ∙ e)
+  adding-turn e = fill-turn i h (sum-is (get_or t l (pos 0)) r both-below ∙ ap (λ z. z +ℤ r) unset ∙ e)
 
 -- what is added to equal rows, and equal numbers added
 pub added-to : (n : ℕ) (f : ℕ → ℤ) {s t : List ℤ} → s ≡ t → tab n (λ l. get_or s l (pos 0) +ℤ f l) ≡ tab n (λ l. get_or t l (pos 0) +ℤ f l)

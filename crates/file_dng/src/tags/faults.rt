@@ -1,7 +1,7 @@
 // Which tag is at fault beside 19, 20 and 21.
 ghost use Rattle.std.specs.Prelude.{◌≡◌};
 ghost use Rattle.refusals.specs.Refused.{refusal_number};
-ghost use Rattle.file_dng.specs.Tags.Prelude.{entries, refuse, ◌before◌};
+ghost use Rattle.file_dng.specs.Tags.Prelude.{entries, refuse};
 ghost use Rattle.file_dng.specs.Tags.Tags.{tag_at};
 ghost use Rattle.file_dng.specs.Tags.RowTests.{row_hit, row_tag};
 ghost use Rattle.file_dng.specs.Tags.Faults.{first_of, structure_fault, count_fault, value_fault, fault_tag};
@@ -11,6 +11,7 @@ use crate::tags::tests::{RowTest, hit, size_differs, strip_outside};
 use crate::tiff::directory::{directory_outside, header_wrong};
 use geometry::Shape;
 use refusals::Refusal;
+use refusals::numbers::{first, refuse};
 
 // The number of the tag at a row of the table.
 fn tag_at(row: usize) -> u64
@@ -35,26 +36,12 @@ fn row_tag(test: RowTest, row: usize) -> u64
     }
 }
 
-// The tag where the condition holds, else 0.
-fn tag_where(tag: u64, condition: bool) -> u64
-    ensures { result ≡ refuse tag condition }
-{
-    if condition { tag } else { 0 }
-}
-
-// The first of two tags that is not 0.
-fn before(tag: u64, other: u64) -> u64
-    ensures { result ≡ (tag before other) }
-{
-    if tag != 0 { tag } else { other }
-}
-
 // The tag of the first of `rows` rows that a test hits, or 0.
 fn first_hit(test: RowTest, file: &[u8], rows: usize) -> u64
     ensures { result ≡ first_of rows (λ row. refuse (row_tag test row) (row_hit test file.now (entries file.now) row)) }
 {
     for row in 0..rows {
-        let found = tag_where(row_tag(test, row), hit(test, file, row));
+        let found = refuse(row_tag(test, row), hit(test, file, row));
         if found != 0 {
             return found;
         }
@@ -73,8 +60,8 @@ fn structure_fault(file: &[u8]) -> u64
         return 0;
     }
     let value = first_hit(RowTest::Outside, file, listed(file));
-    let strip = tag_where(tag_at(STRIP_OFFSETS), strip_outside(file));
-    before(value, strip)
+    let strip = refuse(tag_at(STRIP_OFFSETS), strip_outside(file));
+    first(&[value, strip])
 }
 
 // Beside 21, for a burst of the file's own size: of the sizes only the strip's can differ.
@@ -82,9 +69,9 @@ fn value_fault(file: &[u8], shape: Shape) -> u64
     ensures { result ≡ value_fault file.now (entries file.now) shape }
 {
     let absent = first_hit(RowTest::Absent, file, listed(file));
-    let strip = tag_where(tag_at(STRIP_BYTE_COUNTS), size_differs(file, shape));
+    let strip = refuse(tag_at(STRIP_BYTE_COUNTS), size_differs(file, shape));
     let missed = first_hit(RowTest::Missed, file, demanded(file));
-    before(absent, before(strip, missed))
+    first(&[absent, strip, missed])
 }
 
 // The tag at fault beside a refusal, or 0.

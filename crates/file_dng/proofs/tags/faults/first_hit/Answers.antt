@@ -11,12 +11,12 @@ loop-row-init c = zeros-start
 pub returns-then-found-ne0 : goal.returns-then-found-ne0
 returns-then-found-ne0 c =
     let file = c.args.file.now in
-    let is = c.tag_where-found.ensures ∙ ap₂ refuse c.row_tag.ensures c.hit.ensures in
+    let is = c.refuse-found.ensures ∙ ap₂ refuse c.row_tag.ensures c.hit.ensures in
     is
     ∙ sym (zeros-found (λ row. refuse (row_tag c.args.test row) (row_hit c.args.test file (entries file) row)) _ c.loop-row-test.true c.loop-row.invariant.past (λ z. c.if-found-ne0.true (is ∙ z)))
 
 pub loop-row-preserved : goal.loop-row-preserved
-loop-row-preserved c = zeros-turn c.loop-row.invariant c.loop-row-test.true (sym (c.tag_where-found.ensures ∙ ap₂ refuse c.row_tag.ensures c.hit.ensures) ∙ c.if-found-ne0.false)
+loop-row-preserved c = zeros-turn c.loop-row.invariant c.loop-row-test.true (sym (c.refuse-found.ensures ∙ ap₂ refuse c.row_tag.ensures c.hit.ensures) ∙ c.if-found-ne0.false)
 
 pub returns : goal.returns
 returns c = sym (zeros-done c.loop-row.invariant c.loop-row-test.false)

@@ -1,7 +1,6 @@
 -- Each return is what the tests that led there make of the definition.
 use Rattle.std.proofs.Common.{sym, ap₂, ◌∙◌}
-use Rattle.file_dng.specs.Tags.Prelude.{first, refuse, ◌before◌}
-use Rattle.refusals.specs.TestLaws.{lone}
+use Rattle.file_dng.specs.Tags.Prelude.{[], first, refuse, ◌∷◌}
 use Rattle.file_dng.specs.Tags.Faults.{structure_fault}
 use Rattle.file_dng.proofs.tags.faults.structure_fault.Goals as goal
 
@@ -18,5 +17,5 @@ pub returns : goal.returns
 unfolding structure_fault first
 returns c =
     rw (sym c.header_wrong.ensures ∙ c.if-header_wrong.false, sym c.directory_outside.ensures ∙ c.if-directory_outside.false)
-    (c.before-2.ensures
-    ∙ ap₂ (λ a b. a before b) (rw c.listed.ensures at c.first_hit-value.ensures) (c.tag_where-strip.ensures ∙ ap₂ refuse c.tag_at.ensures c.strip_outside.ensures ∙ lone _))
+    (c.first.ensures
+    ∙ ap₂ (λ a b. first (a ∷ b ∷ [])) (rw c.listed.ensures at c.first_hit-value.ensures) (c.refuse-strip.ensures ∙ ap₂ refuse c.tag_at.ensures c.strip_outside.ensures))
