@@ -2,16 +2,18 @@
 #![tactic(auto)]
 
 use file_input::Reason;
-use report::sizes::FILE_ROOM;
+use printing::Text;
+use report::sizes::{FILE_ROOM, TEXT_ROOM};
 
 fn main(rt: HostRuntime) {
     let mut file = [0u8; FILE_ROOM];
+    let mut text = Text::<TEXT_ROOM>::new();
     match file_input::read_all(&mut rt.stdin(), &mut file) {
         Err(error) => {
             let _ = eprintln!(rt; "motion: standard input: {}", Reason(error));
         }
         Ok(count) => {
-            let text = report::motion_text(&file[..count]);
+            report::motion_text(&file, count, &mut text);
             if let Err(error) = rt.write_all(text.as_bytes()) {
                 let _ = eprintln!(rt; "motion: standard output: {}", Reason(error));
             }

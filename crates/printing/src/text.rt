@@ -31,6 +31,12 @@ impl<const ROOM: usize> Text<ROOM> {
         }
     }
 
+    pub fn clear(&mut self)
+        ensures { self.new ≡ [] }
+    {
+        self.end = 0;
+    }
+
     pub fn as_bytes(&self) -> &[u8]
         ensures text { result.now ≡ self.now }
         ensures room { length result.now ≤ ROOM }

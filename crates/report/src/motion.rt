@@ -1,6 +1,6 @@
 // What `motion` prints.
 ghost use Rattle.std.specs.Prelude.{◌≡◌, ◌++◌, ◌+◌, ◌*◌, ◌≤◌};
-ghost use Rattle.report.specs.Prelude.{length};
+ghost use Rattle.report.specs.Prelude.{[], length};
 ghost use Rattle.report.specs.Inner.{text_room, vector_room, work_room, burst_of, Taken, AlignedAs};
 ghost use Rattle.report.specs.Motion.{frame_line, frame_lines, motion_of};
 
@@ -18,10 +18,10 @@ pub struct Motion;
 impl Program for Motion {
     ghost printed = { motion_of };
 
-    fn text_of(header: Header, samples: &[u16]) -> Text<TEXT_ROOM> {
+    fn put_burst(header: Header, samples: &[u16], text: &mut Text<TEXT_ROOM>) {
         let mut vectors = [0i32; VECTOR_ROOM];
         let mut work = [0i64; WORK_ROOM];
-        aligned_text(header, samples, &mut vectors, &mut work)
+        put_aligned(text, header, samples, &mut vectors, &mut work);
     }
 }
 
@@ -71,27 +71,20 @@ fn align_burst(header: Header, samples: &[u16], vectors: &mut [i32], work: &mut 
     totals.residuals
 }
 
-// The names, and the lines of the burst's alignment.
-fn aligned_text(
+// The names, and the lines of the burst's alignment, into an empty text.
+fn put_aligned(
+    text: &mut Text<TEXT_ROOM>,
     header: Header,
     samples: &[u16],
     vectors: &mut [i32],
     work: &mut [i64],
-) -> Text<TEXT_ROOM>
-    requires { record { taken : Taken header samples.now; vectors_room : length vectors.old ≡ vector_room 7; work-room : length work.old ≡ work_room } }
-    ensures { result ≡ motion_of (burst_of header samples.now) }
+)
+    requires { record { taken : Taken header samples.now; vectors_room : length vectors.old ≡ vector_room 7; work-room : length work.old ≡ work_room; empty : text.old ≡ [] } }
+    ensures { text.new ≡ motion_of (burst_of header samples.now) }
 {
     let residuals = align_burst(header, samples, &mut *vectors, work);
-    let mut text = Text::new();
     text.put_bytes(b"frame tiles still far residual\n");
     let others = header.shape.count - 1;
     let end = PARTS * others;
-    put_frames(
-        &mut text,
-        header.reference,
-        &vectors[..end],
-        residuals,
-        others,
-    );
-    text
+    put_frames(text, header.reference, &vectors[..end], residuals, others);
 }

@@ -1,6 +1,6 @@
 // What a program makes of a file before it prints.
 ghost use Rattle.std.specs.Prelude.{◌≡◌, ◌≤◌};
-ghost use Rattle.algebra.specs.Prelude.{length};
+ghost use Rattle.algebra.specs.Prelude.{[], length};
 ghost use Rattle.report.specs.Program.{file_most};
 ghost use Rattle.report.specs.declared.opening.Unread.TheVariants.{Refused};
 ghost use Rattle.report.specs.Inner.{room, unread_text, Opens};
@@ -27,16 +27,15 @@ impl From<Refusal> for Unread {
 }
 
 impl Unread {
-    // What the programs print for it.
-    pub fn text(self) -> Text<TEXT_ROOM>
-        ensures { result ≡ unread_text self }
+    // What the programs print for it, into an empty text.
+    pub fn put(self, text: &mut Text<TEXT_ROOM>)
+        requires { text.old ≡ [] }
+        ensures { text.new ≡ unread_text self }
     {
-        let mut text = Text::new();
         match self {
             Unread::TooLarge => text.put_bytes(b"too large\n"),
             Unread::Refused(refusal) => text.put_refusal(refusal.number()),
         }
-        text
     }
 }
 

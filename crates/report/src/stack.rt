@@ -1,6 +1,6 @@
 // What `stack` prints.
 ghost use Rattle.std.specs.Prelude.{◌≡◌};
-ghost use Rattle.report.specs.Prelude.{length};
+ghost use Rattle.report.specs.Prelude.{[], length};
 ghost use Rattle.report.specs.Program.{program_side};
 ghost use Rattle.report.specs.Stack.{frame_text, frame_of, stack_of};
 ghost use Rattle.report.specs.Inner.{room, vector_room, work_room, burst_of, Taken};
@@ -18,25 +18,24 @@ pub struct Stack;
 impl Program for Stack {
     ghost printed = { stack_of };
 
-    fn text_of(header: Header, samples: &[u16]) -> Text<TEXT_ROOM> {
+    fn put_burst(header: Header, samples: &[u16], text: &mut Text<TEXT_ROOM>) {
         let mut vectors = [0i32; VECTOR_ROOM];
         let mut output = [0u16; FRAME];
         let mut work = [0i64; WORK_ROOM];
         run_burst(header, samples, &mut vectors, &mut output, &mut work);
-        merged_text(&output)
+        put_merged(text, &output);
     }
 }
 
-// The names, the sizes and the rows of a frame.
-fn merged_text(samples: &[u16]) -> Text<TEXT_ROOM>
-    requires { length samples.now ≡ room 1 }
-    ensures { result ≡ frame_text program_side program_side samples.now }
+// The names, the sizes and the rows of a frame, into an empty text.
+fn put_merged(text: &mut Text<TEXT_ROOM>, samples: &[u16])
+    requires long { length samples.now ≡ room 1 }
+    requires empty { text.old ≡ [] }
+    ensures { text.new ≡ frame_text program_side program_side samples.now }
 {
-    let mut text = Text::new();
     text.put_bytes(b"width height\n");
     text.put_numbers(&[FRAME_SIDE as u64, FRAME_SIDE as u64]);
     text.put_rows(samples, FRAME_SIDE, FRAME_SIDE);
-    text
 }
 
 // A run from the levels of the file, whose frame it leaves in the output. The vectors are those of at most seven frames.

@@ -4,7 +4,7 @@ use Rattle.report.specs.Prelude.{sym, ap, ◌∙◌, List, ℕ, take, ℤ, align
 use Rattle.geometry.specs.Tiles.{frame_parts}
 use Rattle.report.specs.Inner.{vector_room, burst_of, Taken}
 use Rattle.report.specs.Motion.{frame_lines, motion_of}
-use Rattle.report.proofs.motion.aligned_text.Goals as goal
+use Rattle.report.proofs.motion.put_aligned.Goals as goal
 
 frame-parts : {header : Header} {samples : List ℕ} → Taken header samples → frame_parts header.shape ≡ vector_room 1
 frame-parts t = rw (t.sixteen, t.wide, t.high)
@@ -25,5 +25,5 @@ returns c =
     let header = c.args.header in
     let others = header.shape.count - 1 in
     let lines = frame_lines header.reference (vector_room 1) (take (vector_room others) aligned.new.vectors) aligned.result others in
-    let names = c.put_bytes.ensures ∙ ap (λ t. t ++ motion_names) c.new-text.ensures in
+    let names = c.put_bytes.ensures ∙ ap (λ t. t ++ motion_names) c.requires.empty in
     c.put_frames.ensures ∙ ap (λ t. t ++ lines) names ∙ lines_of c.requires.taken aligned.ensures.found aligned.ensures.residuals
