@@ -18,7 +18,7 @@ pub fn header_length(width: usize, height: usize) -> usize
 }
 
 // The header, in at most 50 bytes.
-fn header_text(width: usize, height: usize) -> Text<64>
+pub fn header_text(width: usize, height: usize) -> Text<64>
     ensures header { result ≡ pgm_header width height }
     ensures short { length result ≤ 64 }
 {

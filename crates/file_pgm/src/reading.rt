@@ -8,7 +8,7 @@ ghost use Rattle.file_pgm.specs.Size.{pgm_size};
 
 use crate::PgmRead;
 use crate::header::digits::{digits, leading};
-use crate::header::{header_length, put_header};
+use crate::header::{header_length, header_text};
 use crate::lengths::{file_length, sizes_allowed};
 use crate::samples::{fill, raster_refusal};
 use admit_length::lengths::length_refusal;
@@ -19,9 +19,8 @@ fn header_differs(width: usize, height: usize, bytes: &[u8]) -> bool
     requires { length (pgm_header width height) ≤ length bytes.now }
     ensures { result ≡ differs (pgm_header width height) bytes.now }
 {
-    let mut text = [0u8; 64];
-    let end = put_header(&mut text, width, height);
-    !bytes.starts_with(&text[..end])
+    let text = header_text(width, height);
+    !bytes.starts_with(text.as_bytes())
 }
 
 // The bytes have the length and the header of a file of an allowed size.

@@ -9,12 +9,14 @@ use crate::correcting::{Sixteen, TileCorrector};
 use crate::{Burst, Site};
 use geometry::tiles::tile_columns;
 
-// Words are stored from a place on.
+// Words are stored from a place on. By `copy_from_slice` the archive would ask for memmove.
 fn store_block(work: &mut [i64], at: usize, words: &[i64])
     requires { at + length words.now ≤ length work.old }
     ensures { work.new ≡ written work.old at (λ j. get_or words.now j (pos 0)) (length words.now) }
 {
-    work[at..at + words.len()].copy_from_slice(words);
+    for j in 0..words.len() {
+        work[at + j] = words[j];
+    }
 }
 
 // Half of each row of a pair is stored, one after the other.

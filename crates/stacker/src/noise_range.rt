@@ -36,6 +36,16 @@ fn same_levels(m: Merge, upper: Upper) -> bool
     m.shot == upper.shot && m.read == upper.read
 }
 
+// By `copy_from_slice` the archive would ask for memmove.
+fn copy(frame: &[u16], over: &mut [u16])
+    requires { length over.old ≡ length frame.now }
+    ensures { over.new ≡ frame.now }
+{
+    for i in 0..over.len() {
+        over[i] = frame[i];
+    }
+}
+
 // Both frames, of input that has passed the tests. Where the levels are equal both are the merge, which is made once.
 fn frames(
     m: Merge,
@@ -51,7 +61,7 @@ fn frames(
 {
     if same_levels(m, upper) {
         merge_frames(m, samples, vectors, &mut *low, &mut *work);
-        high.copy_from_slice(&*low);
+        copy(&*low, &mut *high);
         return;
     }
     range_frames(

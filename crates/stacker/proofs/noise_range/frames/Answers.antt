@@ -7,4 +7,4 @@ pub returns-then-same_levels : goal.returns-then-same_levels
 returns-then-same_levels c =
     let same = c.same_levels.ensures c.if-same_levels.true in
     let is = c.merge_frames.ensures in
-    record { low_is = is ∙ sym (low_merged _ _ _ _ c.requires.off same); high_is = c.copy_from_slice.ensures.after ∙ is ∙ sym (high-merged _ _ _ _ c.requires.off same) }
+    record { low_is = is ∙ sym (low_merged _ _ _ _ c.requires.off same); high_is = c.copy.ensures ∙ is ∙ sym (high-merged _ _ _ _ c.requires.off same) }
